@@ -1,0 +1,14 @@
+//! Names of objects and of collections, their texts and their orders.
+#![tactic(auto)]
+
+mod coll;
+mod fault;
+mod name;
+mod oid;
+mod order;
+
+pub use coll::Coll;
+pub use fault::{CollFault, NameFault};
+pub use name::Name;
+pub use oid::{Oid, Snap};
+pub use order::{digit, order_hash};
