@@ -1,0 +1,5 @@
+pub mod Bytes
+pub mod Grammar
+pub mod Printed
+pub mod Answers
+pub mod Cut

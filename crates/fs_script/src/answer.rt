@@ -1,0 +1,22 @@
+use fs_model::{Blob, OidList, Why};
+use fs_names::Oid;
+
+/// What a statement answers.
+#[derive(Drop)]
+pub enum Answer {
+    /// The transaction has this number.
+    Queued { seq: u64 },
+    /// The transaction's lowest refused operation, and why.
+    RefusedOp { op: u32, why: Why },
+    /// 1,024 transactions wait.
+    QueueFull,
+    /// The last number is 2^63 - 1.
+    NumbersSpent,
+    /// All transactions up to these numbers are acknowledged and applied.
+    Drained { acked: u64, seq: u64 },
+    Bytes(Blob),
+    /// A page of a listing, and the object that follows it.
+    Listed { oids: OidList, next: Option<Oid> },
+    /// The object or the collection isn't there.
+    Missing,
+}
