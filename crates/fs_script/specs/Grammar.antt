@@ -7,7 +7,8 @@ use Rattle.std.specs.Str.{bytes_eq}
 use Rattle.fs_names.specs.declared.coll.Coll.{Coll}
 use Rattle.fs_names.specs.declared.oid.Oid.{Oid}
 use Rattle.fs_names.specs.declared.fault.NameFault.{NameFault}
-use Rattle.fs_names.specs.Reading.{number_of, coll_of, oid_of}
+use Rattle.fs_names.specs.Numbers.{number_of}
+use Rattle.fs_names.specs.Reading.{coll_of, oid_of}
 use Rattle.fs_model.specs.declared.op.Op.TheVariants.{MkColl, Touch, Write}
 use Rattle.fs_script.specs.declared.statement.Cursor.{Cursor}
 use Rattle.fs_script.specs.declared.statement.Cursor.TheVariants.{Start, At}
