@@ -4,11 +4,13 @@
 mod coll;
 mod fault;
 mod name;
+mod number;
 mod oid;
 mod order;
 
 pub use coll::Coll;
 pub use fault::{CollFault, NameFault};
 pub use name::Name;
+pub use number::{decimal, hexadecimal, number_law};
 pub use oid::{Oid, Snap};
 pub use order::{digit, order_hash};
