@@ -213,6 +213,7 @@ picked true m n e = (refl, cc)
 picked false m n e = cc
 
 pub number_gives : (base : ℕ) (text : List ℕ) (n : ℕ) → number_of base text ≡ Some n → (n < 2 ^ 64) × (text ≡ digits base false n)
+unfolding number_of
 number_gives base text n e =
     let v = digits_value base text in
     let p = picked (ltb v (2 ^ 64) && bytes_eq text (digits base false v)) v n e in
@@ -221,6 +222,7 @@ number_gives base text n e =
     (subst (λ m. m < 2 ^ 64) p.1 small, (bytes_eq-Decides text (digits base false v)).0 q.1 ∙ ap (digits base false) p.1)
 
 pub number_reads : (base n : ℕ) → 2 ≤ base → base ≤ 16 → n < 2 ^ 64 → number_of base (digits base false n) ≡ Some n
+unfolding number_of
 number_reads base n low high small =
     let text = digits base false n in
     let value = digits-value base n low high small in

@@ -10,7 +10,7 @@ abbrev pub is_lower_digit : ℕ → ℕ → Bool
 is_lower_digit base b = nat_lt (digit_value b) base && not (is_ascii_uppercase b)
 
 -- The number below 2 ^ 64 that a text spells in a base: the text is the number's digits, in lower case and without leading zeros.
-abbrev pub number_of : ℕ → List ℕ → Option ℕ
+unfoldable pub number_of : ℕ → List ℕ → Option ℕ
 number_of base text =
     let n = digits_value base text in
     if nat_lt n (2 ^ 64) && bytes_eq text (digits base false n) then Some n else None
