@@ -2,13 +2,18 @@
 #![tactic(auto)]
 
 mod coll;
+mod coll_reading;
 mod fault;
 mod name;
+mod number;
 mod oid;
 mod order;
+mod split;
 
 pub use coll::Coll;
+pub use coll_reading::decode_coll;
 pub use fault::{CollFault, NameFault};
 pub use name::Name;
+pub use number::{decimal, hexadecimal, number_law};
 pub use oid::{Oid, Snap};
 pub use order::{digit, order_hash};

@@ -1,0 +1,8 @@
+pub mod Maps
+pub mod Sets
+pub mod Cells
+pub mod Colls
+pub mod ByteCells
+pub mod Listings
+pub mod Refusals
+pub mod Writes

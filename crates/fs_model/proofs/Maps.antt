@@ -1,0 +1,82 @@
+-- A `BTreeMap` in the order R, seen as the `FinMap` of its entries in an order S with the same ties.
+use Rattle.std.proofs.Common.{◌≡◌, true, false, cond, Some, IsSome, List, [], ◌∷◌, refl, sym, ap, subst, ◌∙◌}
+use Rattle.std.specs.declared.cmp.Ordering.{Ordering}
+use Rattle.std.specs.declared.cmp.Ordering.TheVariants.{Less, Equal, Greater}
+use Rattle.std.specs.Ordering.{is_eq, eq_by_cmp, nat_cmp}
+use Rattle.std.specs.Cmp.Lexicographic.{slice_cmp, nat_list_cmp_total}
+use Rattle.std.specs.Cmp.{IsTotalOrder, eq_by_cmp_equiv}
+use Rattle.std.specs.Map.{lookup}
+use Rattle.std.specs.FinMap.{FinMap, IsAntisymmetric, nat_cmp-IsAntisymmetric, slice_cmp-IsAntisymmetric, from_entries, get, insert, find, get-from_entries, get_tied, get-insert, same_map}
+use Rattle.fs_names.specs.declared.oid.Oid.{Oid}
+use Rattle.fs_names.specs.declared.coll.Coll.{Coll}
+use Rattle.fs_names.specs.Order.{oid_cmp, oid_field_cmp, coll_cmp, coll_field_cmp, oid_cmp_total, oid_field_cmp_total, coll_cmp_total, coll_field_cmp_total, oid_cmp-IsAntisymmetric, oid_field_cmp-IsAntisymmetric, coll_cmp-IsAntisymmetric, coll_field_cmp-IsAntisymmetric, same_ties}
+
+-- an order of the map that has the ties of the tree's order
+pub record Suits {K : Type 0} (R S : K → K → Ordering) : Type 0 where
+  pub total : IsTotalOrder S
+  pub same : IsAntisymmetric S
+  pub ties : (x y : K) → eq_by_cmp S x y ≡ eq_by_cmp R x y
+
+pub bytes_suit : Suits (slice_cmp nat_cmp) (slice_cmp nat_cmp)
+bytes_suit = record { total = nat_list_cmp_total; same = slice_cmp-IsAntisymmetric nat_cmp-IsAntisymmetric; ties = λ x y. refl }
+
+pub oids_suit : Suits oid_field_cmp oid_cmp
+oids_suit = record { total = oid_cmp_total; same = oid_cmp-IsAntisymmetric; ties = same_ties oid_cmp_total oid_field_cmp_total oid_cmp-IsAntisymmetric oid_field_cmp-IsAntisymmetric }
+
+pub colls_suit : Suits coll_field_cmp coll_cmp
+colls_suit = record { total = coll_cmp_total; same = coll_cmp-IsAntisymmetric; ties = same_ties coll_cmp_total coll_field_cmp_total coll_cmp-IsAntisymmetric coll_field_cmp-IsAntisymmetric }
+
+pub tied : {K : Type 0} {R S : K → K → Ordering} → Suits R S → (k q : K) → is_eq (R k q) ≡ eq_by_cmp S q k
+tied suits k q = sym (suits.ties k q) ∙ (eq_by_cmp_equiv suits.total).symm k q
+
+tie : (r : Ordering) → is_eq r ≡ true → r ≡ Equal
+tie Less e = cc
+tie Equal e = refl
+tie Greater e = cc
+
+module _ {K X : Type 0} {R S : K → K → Ordering} (suits : Suits R S) where
+  pub find-lookup : (q : K) (es : List (K × X)) → find S q es ≡ lookup (λ k. is_eq (R q k)) es
+  find-lookup q [] = refl
+  find-lookup q (e ∷ es) =
+      ap (λ b. cond b (Some e.1) (find S q es)) (suits.ties q e.0) ∙ ap (cond (is_eq (R q e.0)) (Some e.1)) (find-lookup q es)
+
+  pub get-view : (es : List (K × X)) (q : K) → get (from_entries {R = S} es) q ≡ lookup (λ k. is_eq (R q k)) es
+  get-view es q = get-from_entries suits.total es q ∙ find-lookup q es
+
+  pub view-insert : (es fs : List (K × X)) (k : K) (v : X)
+      → ((q : K) → lookup (λ x. is_eq (R q x)) fs ≡ cond (is_eq (R k q)) (Some v) (lookup (λ x. is_eq (R q x)) es))
+      → from_entries {R = S} fs ≡ insert (from_entries es) k v
+  view-insert es fs k v is = same_map suits.total suits.same _ _ (λ q.
+      get-view fs q ∙ is q
+      ∙ ap (λ b. cond b (Some v) (lookup (λ x. is_eq (R q x)) es)) (tied suits k q)
+      ∙ ap (cond (eq_by_cmp S q k) (Some v)) (sym (get-view es q))
+      ∙ sym (get-insert suits.total (from_entries es) k v q))
+
+  -- the value that is there is put there again
+  pub insert-same : (m : FinMap S X) (k : K) (v : X) → get m k ≡ Some v → insert m k v ≡ m
+  insert-same m k v is = same_map suits.total suits.same _ _ (λ q.
+      get-insert suits.total m k v q
+      ∙ elim (eq_by_cmp S q k) as (λ b. eq_by_cmp S q k ≡ b → cond b (Some v) (get m q) ≡ get m q) [
+        | true ↦ λ t. sym is ∙ get_tied suits.total m q k (tie _ t)
+        | false ↦ λ t. refl
+      ] refl)
+
+  -- what `get_mut` lent was there
+  pub lent : (es fs : List (K × X)) (k : K) (s v : X) → Some s ≡ lookup (λ x. is_eq (R k x)) es
+      → (IsSome (lookup (λ x. is_eq (R k x)) es) → (q : K) → lookup (λ x. is_eq (R q x)) fs ≡ cond (is_eq (R k q)) (Some v) (lookup (λ x. is_eq (R q x)) es))
+      → (q : K) → lookup (λ x. is_eq (R q x)) fs ≡ cond (is_eq (R k q)) (Some v) (lookup (λ x. is_eq (R q x)) es)
+  lent es fs k s v was is = is (subst IsSome was refl)
+
+  -- what was lent came back as it was
+  pub view-unchanged : (es fs : List (K × X)) (k : K) (v : X) → Some v ≡ lookup (λ x. is_eq (R k x)) es
+      → ((q : K) → lookup (λ x. is_eq (R q x)) fs ≡ cond (is_eq (R k q)) (Some v) (lookup (λ x. is_eq (R q x)) es))
+      → from_entries {R = S} fs ≡ from_entries es
+  view-unchanged es fs k v was is = view-insert es fs k v is ∙ insert-same (from_entries es) k v (get-view es k ∙ sym was)
+
+pub coll_ties : (a b : Coll) → eq_by_cmp coll_cmp a b ≡ eq_by_cmp coll_field_cmp a b
+coll_ties a b = colls_suit.ties a b
+
+pub oid_ties : (a b : Oid) → eq_by_cmp oid_cmp a b ≡ eq_by_cmp oid_field_cmp a b
+oid_ties a b = oids_suit.ties a b
+
+pub ruleset ties = (coll_ties, oid_ties)

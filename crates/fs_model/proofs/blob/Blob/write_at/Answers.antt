@@ -1,0 +1,17 @@
+use Rattle.std.proofs.Common.{◌≡◌, ◌++◌, ◌+◌, ℕ, false, List, [], ◌∷◌, ◌==◌, length, take, drop, ap, ◌∙◌}
+use Rattle.fs_model.specs.Rows.{overwrite}
+use Rattle.fs_model.proofs.Writes.{put_bytes}
+use Rattle.fs_model.proofs.blob.Blob.write_at.Goals as goal
+
+not_nil : (bs : List ℕ) → false ≡ (length bs == 0) → bs ≡ [] → ⊥
+not_nil [] e h = cc
+not_nil (b ∷ bs) e h = cc
+
+pub returns-clause-ok : goal.returns-clause-ok
+returns-clause-ok c =
+    let bytes = c.args.bytes.now in
+    let at = c.args.at in
+    c.put_at.ensures
+    ∙ ap (λ (l : List ℕ). take at l ++ bytes ++ drop (at + length bytes) l) c.in_ok-lengthen.ensures.ok
+    ∙ put_bytes c.self.inside.bytes.items at bytes (not_nil bytes c.if-is_empty.ensures)
+    ∙ ap (λ (old : List ℕ). overwrite old at bytes) c.self.view_is

@@ -1,0 +1,10 @@
+use Rattle.std.proofs.Common.{◌≡◌, ◌≤◌, take, None}
+use Rattle.fs_model.specs.Check.{colls_after, refusal_from}
+use Rattle.fs_model.proofs.check.add_txn.Given as goal
+
+abbrev pub invariant-loop-i : goal.invariant-loop-i
+invariant-loop-i l = record {
+  after : l.colls ≡ colls_after l.fn.colls (take l.i l.ops);
+  accepted : refusal_from l.fn.colls 0 (take l.i l.ops) ≡ None;
+  few : l.i ≤ 4096;
+}
