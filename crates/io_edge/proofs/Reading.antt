@@ -67,7 +67,12 @@ HasRead-past None left now buffer before after n limit h moved fills past = tt
 HasRead-past (Some bytes) left now buffer before after n limit h moved fills past =
     let k = length buffer in
     let f = subst (λ (o : Option (List ℕ)). IfSome o (Fills before after n)) h.rest fills in
-    (k + n, omega arith, omega (arith, f.count, length-drop k bytes, h.front.0), moved ∙ ap (without_first n) h.rest ∙ without_first-without_first (Some bytes) k n)
+    record {
+      count = k + n;
+      past = omega arith;
+      within = omega (arith, f.count, length-drop k bytes, h.front.0);
+      rest = moved ∙ ap (without_first n) h.rest ∙ without_first-without_first (Some bytes) k n;
+    }
 
 pub HasRead-later : (stream left now : Option (List ℕ)) (buffer : List ℕ) (n : ℕ) → HasRead stream left buffer → now ≡ without_first n left → IsLater stream now
 HasRead-later stream left now buffer n h moved =

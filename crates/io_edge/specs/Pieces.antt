@@ -7,14 +7,19 @@ pub record Fills (before after : List ℕ) (n : ℕ) (stream : List ℕ) : Type 
   pub count : n ≤ length stream
   pub piece : after ≡ take n stream ++ drop n before
 
--- some of the bytes that were left were read
+-- some more bytes were read, maybe none or all of them
 abbrev pub IsLater : Option (List ℕ) → Option (List ℕ) → Type 0
 IsLater before now = (n : ℕ) × (now ≡ without_first n before)
 
 -- more than `limit` bytes of the stream were read
-abbrev pub IsPast : ℕ → Option (List ℕ) → List ℕ → Type 0
-IsPast limit now stream = (n : ℕ) × (limit < n) × (n ≤ length stream) × (now ≡ Some (drop n stream))
+pub record IsPast (limit : ℕ) (now : Option (List ℕ)) (stream : List ℕ) : Type 0 where
+  pub count : ℕ
+  pub past : limit < count
+  pub within : count ≤ length stream
+  pub rest : now ≡ Some (drop count stream)
 
--- the first bytes of a piece were written, maybe all of them
-abbrev pub WritesFront : Option (List ℕ) → Option (List ℕ) → List ℕ → Type 0
-WritesFront before now piece = (n : ℕ) × (n ≤ length piece) × (now ≡ followed_by before (take n piece))
+-- the first bytes of a piece were written, maybe none or all of them
+pub record WritesFront (before now : Option (List ℕ)) (piece : List ℕ) : Type 0 where
+  pub count : ℕ
+  pub within : count ≤ length piece
+  pub front : now ≡ followed_by before (take count piece)

@@ -6,7 +6,7 @@ use fault_count::Schedule;
 use std::alloc::{AllocError, Global};
 use std::marker::Model;
 
-/// A sink in memory, some of whose writes fail.
+/// A sink in memory. It takes its whole room when it is made, so no write takes memory.
 #[derive(Debug, Drop)]
 pub struct MemorySink {
     bytes: Vec<u8>,
@@ -22,13 +22,15 @@ impl Model for MemorySink {
 
     ghost view = { λ s. record { written = s.bytes.items; room = s.room; plan = s.schedule } };
 
-    ghost invariant = { λ s. (vec_len s.bytes ≤ s.room) × (s.room ≤ vec_capacity s.bytes) × (s.schedule.faults < 2 ^ 64) };
+    ghost invariant = { λ s.
+        (vec_len s.bytes ≤ s.room) × (s.room ≤ vec_capacity s.bytes) × (s.schedule.faults < 2 ^ 64) };
 }
 
 impl MemorySink {
-    /// Room for so many bytes, and the numbers of the writes that are to fail, the first write being 1.
+    /// Has room for so many bytes, and fails these writes, the first of which is number 1.
     pub fn new(alloc: Global, room: usize, fail: Vec<u64>) -> Result<Self, AllocError>
-        ensures { IfOk result (λ sink. sink ≡ record { written = []; room = room; plan = first_plan fail.items }) }
+        ensures { IfOk result (λ sink.
+            sink ≡ record { written = []; room = room; plan = first_plan fail.items }) }
     {
         Ok(MemorySink {
             bytes: Vec::with_capacity(alloc, room)?,
@@ -58,8 +60,9 @@ impl Sink for MemorySink {
 
     fn write(&mut self, piece: &[u8]) -> Result<usize, IoFailed>
         ensures fails { IsErr result ↔ (FailsNext self.old.plan ⊎ IsFull self.old piece.now) }
-        ensures count { IfOk result (λ n. n ≡ min (length piece.now) (self.old.room - length self.old.written)) }
-        ensures some { IfOk result (λ n. 0 < length piece.now → 0 < n) }
+        ensures count { IfOk result (λ n.
+            n ≡ min (length piece.now) (self.old.room - length self.old.written)) }
+        ensures progress { IfOk result (λ n. 0 < length piece.now → 0 < n) }
         ensures written { IfOk result (λ n. self.new.written ≡ self.old.written ++ take n piece.now) }
         ensures err { OnErr result (self.new.written ≡ self.old.written) }
         ensures room { self.new.room ≡ self.old.room }

@@ -1,12 +1,11 @@
 ghost use Rattle.std.specs.Prelude.{◌≡◌, ◌<◌, ◌≤◌, ◌^◌, ◌++◌, ◌↔◌, length, Some, take, drop, min, is_err, IsErr, IfOk, OnErr};
-ghost use Rattle.fault_count.specs.Counted.{Counted};
 ghost use Rattle.io_edge.specs.Memory.{FailsNext, first_plan, after_call};
 
 use crate::{IoFailed, Source};
 use fault_count::Schedule;
 use std::marker::Model;
 
-/// A source in memory, some of whose reads fail.
+/// A source in memory.
 #[derive(Debug, Drop)]
 pub struct MemorySource {
     bytes: Vec<u8>,
@@ -26,7 +25,7 @@ impl Model for MemorySource {
 }
 
 impl MemorySource {
-    /// These bytes, and the numbers of the reads that are to fail, the first read being 1.
+    /// Gives these bytes, and fails these reads, the first of which is number 1.
     pub fn new(bytes: Vec<u8>, fail: Vec<u64>) -> Self
         ensures { result ≡ record { left = bytes.items; plan = first_plan fail.items } }
     {

@@ -6,7 +6,7 @@ use fault_count::FaultCount;
 use std::io::Read;
 use std::marker::Model;
 
-/// Standard input.
+/// Standard input, as the runtime has it.
 #[derive(Drop)]
 pub struct RealSource<R> {
     rt: R,
@@ -54,7 +54,7 @@ impl<R: Input> Source for RealSource<R> {
     }
 }
 
-/// Standard output.
+/// Standard output, as the runtime has it. It keeps nothing back: what it takes is written.
 #[derive(Drop)]
 pub struct RealSink<R> {
     rt: R,
@@ -89,7 +89,7 @@ impl<R: Print> Sink for RealSink<R> {
 
     fn write(&mut self, piece: &[u8]) -> Result<usize, IoFailed>
         ensures within { IfOk result (λ n. n ≤ length piece.now) }
-        ensures some { IfOk result (λ n. 0 < length piece.now → 0 < n) }
+        ensures progress { IfOk result (λ n. 0 < length piece.now → 0 < n) }
         ensures counts { self.new ≡ (if is_err result then one_more self.old else self.old) }
         ensures later { self.old ≤ self.new }
     {

@@ -13,10 +13,10 @@ pub trait Sink {
     /// How many faults were counted.
     ghost faults: { Self → ℕ };
 
-    /// Writes the first bytes of the piece, and answers how many.
+    /// Writes the first bytes of the piece, and answers how many. It may take a part only.
     fn write(&mut self, piece: &[u8]) -> Result<usize, IoFailed>
         ensures within { IfOk result (λ n. n ≤ length piece.now) }
-        ensures some { IfOk result (λ n. 0 < length piece.now → 0 < n) }
+        ensures progress { IfOk result (λ n. 0 < length piece.now → 0 < n) }
         ensures takes { IfOk result (λ n. written self.new ≡ followed_by (written self.old) (take n piece.now)) }
 
         // A failed write takes nothing.

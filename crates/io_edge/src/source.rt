@@ -1,4 +1,4 @@
-ghost use Rattle.std.specs.Prelude.{◌≡◌, ℕ, ◌<◌, ◌≤◌, ◌^◌, List, [], length, Option, IfSome, IfOk, OnOk, OnErr, IsErrOf};
+ghost use Rattle.std.specs.Prelude.{◌≡◌, ℕ, ◌<◌, ◌≤◌, List, [], length, Option, IfSome, IfOk, OnOk, OnErr, IsErrOf};
 ghost use Rattle.fault_count.specs.Counted.{Counted};
 ghost use Rattle.io_edge.specs.Told.{without_first};
 ghost use Rattle.io_edge.specs.Pieces.{Fills, IsLater, IsPast};
@@ -15,7 +15,8 @@ pub trait Source {
     /// How many faults were counted.
     ghost faults: { Self → ℕ };
 
-    /// Reads the next bytes into the front of the piece, and answers how many.
+    /// Reads the next bytes into the front of the piece, and answers how many. They may fill it in part only, though more
+    /// are left.
     fn read(&mut self, into: &mut [u8]) -> Result<usize, IoFailed>
         ensures within { IfOk result (λ n. n ≤ length into.old) }
         ensures bytes { IfOk result (λ n. IfSome (left self.old) (Fills into.old into.new n)) }
@@ -60,15 +61,15 @@ impl From<AllocError> for ReadFault {
 /// How many bytes are asked of a source at once.
 const PIECE: usize = 65536;
 
-/// Reads a source to its end, if there are at most `limit` bytes.
+/// Reads a source to its end, if at most `limit` bytes are left.
 pub fn read_all<S: Source>(alloc: Global, source: &mut S, limit: usize) -> Result<Text, ReadFault>
-    requires { limit < 2 ^ 32 }
     ensures whole { IfOk result (λ text. IfSome (S.left source.old) (λ bytes. text ≡ bytes)) }
     ensures end { OnOk result (IfSome (S.left source.old) (λ _. S.left source.new ≡ Some [])) }
     ensures within { IfOk result (λ text. length text ≤ limit) }
 
     // It is too long only where more bytes were left, and then more were read.
-    ensures too_long { IsErrOf result ReadFault.TooLong → IfSome (S.left source.old) (IsPast limit (S.left source.new)) }
+    ensures too_long { IsErrOf result ReadFault.TooLong →
+        IfSome (S.left source.old) (IsPast limit (S.left source.new)) }
     ensures failed { IsErrOf result ReadFault.Failed → Counted (S.faults source.old) (S.faults source.new) }
 
     // Whatever it answers, some rest is left.
