@@ -2,6 +2,10 @@ use crate::{
     IoFailed, MemorySink, MemorySource, ReadFault, RealSink, RealSource, Sink, Source, Text,
     read_all, told_in_memory, write_all,
 };
+use std::alloc::Allocator;
+use std::fmt::Display;
+use std::io;
+use std::io::{BufRead, Lines};
 use std::test::Fail;
 
 #[test]
@@ -94,4 +98,50 @@ fn standard_input_ends_and_standard_output_takes_bytes(rt: HostRuntime) {
     let mut sink = RealSink::new(&rt);
     assert_eq!(rt; write_all(&mut sink, b"taken\n"), Ok(()));
     assert_eq!(rt; sink.write(b""), Ok(0));
+}
+
+// A runtime whose input is three bytes, and whose output takes nothing.
+#[derive(Drop)]
+struct Stuck;
+
+impl Input for Stuck {
+    type Reader = &'static [u8];
+
+    fn read_line<A: Allocator + Clone>(&self, buf: &mut String<A>) -> io::Result<usize> {
+        self.reader().read_line(buf)
+    }
+
+    fn lines<A: Allocator>(&self, alloc: A) -> Lines<&'static [u8], A> {
+        self.reader().lines(alloc)
+    }
+
+    fn reader(&self) -> &'static [u8] {
+        b"abc"
+    }
+}
+
+impl Print for Stuck {
+    fn print<D: Display + Drop>(&self, _value: D) -> io::Result<()> {
+        Ok(())
+    }
+
+    fn println<D: Display + Drop>(&self, _value: D) -> io::Result<()> {
+        Ok(())
+    }
+
+    fn write_all(&self, _bytes: &[u8]) -> io::Result<()> {
+        Ok(())
+    }
+
+    fn write_some(&self, _bytes: &[u8]) -> io::Result<usize> {
+        Ok(0)
+    }
+}
+
+#[test]
+fn what_the_runtime_reads_is_given_and_a_write_of_nothing_fails(rt: HostRuntime) {
+    let mut piece = *b"----";
+    assert_eq!(rt; RealSource::new(Stuck).read(&mut piece), Ok(3));
+    assert_eq!(rt; piece.as_slice(), b"abc-".as_slice());
+    assert_eq!(rt; RealSink::new(Stuck).write(b"x"), Err(IoFailed));
 }
