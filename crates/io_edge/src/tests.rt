@@ -5,7 +5,7 @@ use crate::{
 use std::alloc::Allocator;
 use std::fmt::Display;
 use std::io;
-use std::io::{BufRead, Lines};
+use std::io::{BufRead, ErrorKind, Lines, Read};
 use std::test::Fail;
 
 #[test]
@@ -100,27 +100,53 @@ fn standard_input_ends_and_standard_output_takes_bytes(rt: HostRuntime) {
     assert_eq!(rt; sink.write(b""), Ok(0));
 }
 
-// A runtime whose input is three bytes, and whose output takes nothing.
+// An input of three bytes, or one that fails.
 #[derive(Drop)]
-struct Stuck;
+struct OddReader {
+    fails: bool,
+}
 
-impl Input for Stuck {
-    type Reader = &'static [u8];
-
-    fn read_line<A: Allocator + Clone>(&self, buf: &mut String<A>) -> io::Result<usize> {
-        self.reader().read_line(buf)
-    }
-
-    fn lines<A: Allocator>(&self, alloc: A) -> Lines<&'static [u8], A> {
-        self.reader().lines(alloc)
-    }
-
-    fn reader(&self) -> &'static [u8] {
-        b"abc"
+impl Read for OddReader {
+    fn read(&mut self, into: &mut [u8]) -> io::Result<usize> {
+        if self.fails {
+            return Err(io::Error::from(ErrorKind::Other));
+        }
+        let mut bytes = b"abc".as_slice();
+        bytes.read(into)
     }
 }
 
-impl Print for Stuck {
+impl BufRead for OddReader {
+    fn fill_buf(&mut self) -> io::Result<&[u8]> {
+        Err(io::Error::from(ErrorKind::Other))
+    }
+
+    fn consume(&mut self, _amount: usize) {}
+}
+
+// A runtime with that input, and with an output that takes nothing.
+#[derive(Drop)]
+struct Odd {
+    fails: bool,
+}
+
+impl Input for Odd {
+    type Reader = OddReader;
+
+    fn read_line<A: Allocator + Clone>(&self, into: &mut String<A>) -> io::Result<usize> {
+        self.reader().read_line(into)
+    }
+
+    fn lines<A: Allocator>(&self, alloc: A) -> Lines<OddReader, A> {
+        self.reader().lines(alloc)
+    }
+
+    fn reader(&self) -> OddReader {
+        OddReader { fails: self.fails }
+    }
+}
+
+impl Print for Odd {
     fn print<D: Display + Drop>(&self, _value: D) -> io::Result<()> {
         Ok(())
     }
@@ -139,9 +165,13 @@ impl Print for Stuck {
 }
 
 #[test]
-fn what_the_runtime_reads_is_given_and_a_write_of_nothing_fails(rt: HostRuntime) {
+fn what_the_runtime_answers_is_handed_on_and_a_write_of_nothing_fails(rt: HostRuntime) {
     let mut piece = *b"----";
-    assert_eq!(rt; RealSource::new(Stuck).read(&mut piece), Ok(3));
+    let mut failing = RealSource::new(Odd { fails: true });
+    assert_eq!(rt; failing.read(&mut piece), Err(IoFailed));
+    let mut source = RealSource::new(Odd { fails: false });
+    assert_eq!(rt; source.read(&mut piece), Ok(3));
     assert_eq!(rt; piece.as_slice(), b"abc-".as_slice());
-    assert_eq!(rt; RealSink::new(Stuck).write(b"x"), Err(IoFailed));
+    let mut sink = RealSink::new(Odd { fails: false });
+    assert_eq!(rt; sink.write(b"x"), Err(IoFailed));
 }
