@@ -1,6 +1,6 @@
 -- What the statements of a script answer, from the objects of a store on.
 use Rattle.std.specs.Prelude.{ℕ, ◌+◌, ◌-◌, ◌^◌, nat_le, if◌then◌else◌, List, [], ◌∷◌, ◌++◌, length, take, drop, map, Option, None, Some}
-use Rattle.std.specs.List.{fold, flat_map}
+use Rattle.std.specs.List.{flat_map}
 use Rattle.std.specs.FinMap as map
 use Rattle.fs_names.specs.declared.coll.Coll.{Coll}
 use Rattle.fs_names.specs.declared.oid.Oid.{Oid}
@@ -9,7 +9,7 @@ use Rattle.fs_model.specs.declared.op.Txn.{Txn}
 use Rattle.fs_model.specs.declared.op.Why.{Why}
 use Rattle.fs_model.specs.Objects.{Object, Objects, look}
 use Rattle.fs_model.specs.Colls.{CollSet, colls_of}
-use Rattle.fs_model.specs.Rows.{row}
+use Rattle.fs_model.specs.Rows.{fold_ops}
 use Rattle.fs_model.specs.Check.{txn_refusal, colls_after}
 use Rattle.fs_model.specs.Listing.{Page, listing}
 use Rattle.fs_script.specs.declared.statement.Cursor.{Cursor}
@@ -72,7 +72,7 @@ abbrev pub after_queue : Session → Txn → Session
 after_queue s txn = queued_if (queue_answer s txn) s txn
 
 abbrev pub after_drain : Session → Session
-after_drain s = record { objects = fold row s.objects (waiting_ops s); waiting = []; last = s.last }
+after_drain s = record { objects = fold_ops s.objects (waiting_ops s); waiting = []; last = s.last }
 
 -- the bytes from `at` up to the end or to `at + len`
 abbrev pub bytes_answer : Option Object → ℕ → ℕ → Answer

@@ -1,4 +1,4 @@
-ghost use Rattle.std.specs.Prelude.{◌≡◌, ◌↔◌, [], ◌∷◌, ◌++◌, length, IsTrue, OnOk, OnErr};
+ghost use Rattle.std.specs.Prelude.{◌≡◌, ◌↔◌, [], ◌∷◌, ◌++◌, length, IsTrue, IfNone, OnOk, OnErr};
 ghost use Rattle.std.specs.Option.{option_to_list};
 
 use crate::Line;
@@ -39,9 +39,10 @@ impl Script {
         Ok(())
     }
 
-    /// Takes the first line away.
+    /// Takes the first line away, if there is one.
     pub fn next(&mut self) -> Option<Line>
-        ensures { self.old ≡ option_to_list result ++ self.new }
+        ensures first { self.old ≡ option_to_list result ++ self.new }
+        ensures none { IfNone result (self.old ≡ []) }
     {
         self.lines.pop_front()
     }

@@ -1,0 +1,4 @@
+pub mod Kept
+pub mod Ties
+pub mod Command
+pub mod Run
