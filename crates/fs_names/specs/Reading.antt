@@ -94,9 +94,11 @@ oid_from None name key nspace (Some snap) (Some hash) (Some pool) =
     Ok (record { name = name; key = key; nspace = nspace; snap = snap; hash = hash; pool = pool })
 
 -- the object that six fields name
+unfoldable pub oid_of_six : List ℕ → List ℕ → List ℕ → List ℕ → List ℕ → List ℕ → Result Oid NameFault
+oid_of_six name key snap hash nspace pool = oid_from (names_fault name key snap hash nspace) name key nspace (snap_of snap) (hash_of hash) (pool_of pool)
+
 abbrev pub oid_of_fields : List (List ℕ) → Result Oid NameFault
-oid_of_fields (name ∷ key ∷ snap ∷ hash ∷ nspace ∷ pool ∷ []) =
-    oid_from (names_fault name key snap hash nspace) name key nspace (snap_of snap) (hash_of hash) (pool_of pool)
+oid_of_fields (name ∷ key ∷ snap ∷ hash ∷ nspace ∷ pool ∷ []) = oid_of_six name key snap hash nspace pool
 oid_of_fields _ = Err (BadField 6)
 
 -- the object that a text names, or the first fault of the text

@@ -4,16 +4,19 @@
 mod coll;
 mod coll_reading;
 mod fault;
+mod hash;
 mod name;
 mod number;
 mod oid;
+mod oid_reading;
 mod order;
 mod split;
 
 pub use coll::Coll;
 pub use coll_reading::decode_coll;
 pub use fault::{CollFault, NameFault};
+pub use hash::{digit, order_hash};
 pub use name::Name;
 pub use number::{decimal, hexadecimal, number_law};
 pub use oid::{Oid, Snap};
-pub use order::{digit, order_hash};
+pub use oid_reading::decode_oid;
