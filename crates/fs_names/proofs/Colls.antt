@@ -1,9 +1,12 @@
 -- The parts of a collection's text.
-use Rattle.std.proofs.Common.{◌≡◌, ℕ, ◌<◌, Bool, List, [], length, Option, Some, None, refl, sym, ap, ◌∙◌}
+use Rattle.std.proofs.Common.{◌≡◌, ℕ, ◌<◌, Bool, true, false, List, [], ◌++◌, codes, length, Option, Some, None, refl, sym, ap, ◌∙◌}
+use Rattle.std.proofs.lemmas.List.{append_assoc}
+use Rattle.std.specs.Fmt.{digits}
 use Rattle.std.specs.List.{position_or_len, before_first, after_first}
 use Rattle.fs_names.specs.declared.coll.Coll.{Coll}
 use Rattle.fs_names.specs.declared.coll.Coll.TheVariants.{Meta, Pg}
 use Rattle.fs_names.specs.Numbers.{number_of}
+use Rattle.fs_names.specs.Text.{coll_text}
 use Rattle.fs_names.specs.Reading.{coll_of, pg_of, pg_from, seed_of, kind_of, is_dot, is_underscore}
 use Rattle.fs_names.proofs.Splits.{after_none}
 
@@ -31,3 +34,12 @@ no_kind text group g none =
 
 pub no_group : (text : List ℕ) → position_or_len is_dot text ≡ length text → pg_of text ≡ None
 no_group text none = no_kind text [] (sym (after_none is_dot text none)) refl
+
+-- the text of a group's collection, as it is written
+pub head_text : (pool seed : ℕ) → coll_text (Pg pool seed false) ≡ digits 10 false pool ++ (codes "." ++ (digits 16 false seed ++ codes "_head"))
+unfolding coll_text
+head_text pool seed = simp append_assoc
+
+pub temp_text : (pool seed : ℕ) → coll_text (Pg pool seed true) ≡ digits 10 false pool ++ (codes "." ++ (digits 16 false seed ++ codes "_TEMP"))
+unfolding coll_text
+temp_text pool seed = simp append_assoc

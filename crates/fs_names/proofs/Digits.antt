@@ -208,7 +208,7 @@ digits_first base (suc n) low high small = λ e.
     absurd (onto_first 64 base (suc n) [] low high (omega arith) (fits_digits base (suc n) low small) (ap (λ l. get_or l 0 0) (sym (onto_all base (suc n))) ∙ e))
 
 -- what `number_of` gives
-picked : (b : Bool) (m n : ℕ) → cond b (Some m) None ≡ Some n → (b ≡ true) × (m ≡ n)
+pub picked : (b : Bool) (m n : ℕ) → cond b (Some m) None ≡ Some n → (b ≡ true) × (m ≡ n)
 picked true m n e = (refl, cc)
 picked false m n e = cc
 
@@ -234,7 +234,7 @@ pub digits_spell : (base : ℕ) → 2 ≤ base → base ≤ 16 → IsSpelledByDi
 digits_spell base low high text n = (λ e. number_gives base text n e, λ p. ap (number_of base) p.1 ∙ number_reads base n low high p.0)
 
 -- texts that spell no number
-none_from : (o : Option ℕ) → ((n : ℕ) → o ≡ Some n → ⊥) → o ≡ None
+pub none_from : (o : Option ℕ) → ((n : ℕ) → o ≡ Some n → ⊥) → o ≡ None
 none_from None h = refl
 none_from (Some n) h = absurd (h n refl)
 

@@ -17,6 +17,11 @@ then_Equal Less = refl
 then_Equal Equal = refl
 then_Equal Greater = refl
 
+then_assoc : (a b c : Ordering) → ordering_then a (ordering_then b c) ≡ ordering_then (ordering_then a b) c
+then_assoc Less b c = refl
+then_assoc Equal b c = refl
+then_assoc Greater b c = refl
+
 pool_cmp : (p q : Option ℕ) → slice_cmp nat_cmp (pool_key p) (pool_key q) ≡ option_cmp nat_cmp p q
 pool_cmp None None = refl
 pool_cmp None (Some q) = refl
@@ -28,7 +33,7 @@ pub oid_cmp_parts : (a b : Oid)
     ≡ parts_cmp (slice_cmp nat_cmp a.name b.name) (slice_cmp nat_cmp a.key b.key) (slice_cmp nat_cmp a.nspace b.nspace)
     (slice_cmp nat_cmp (snap_key a.snap) (snap_key b.snap)) (nat_cmp a.hash b.hash) (option_cmp nat_cmp a.pool b.pool)
 unfolding oid_field_cmp
-oid_cmp_parts a b = simp (then_Equal, pool_cmp)
+oid_cmp_parts a b = simp (then_Equal, pool_cmp, then_assoc)
 
 temp_cmp : (s t : Bool) → nat_cmp (temp_key s) (temp_key t) ≡ bool_cmp s t
 temp_cmp true true = refl
@@ -37,18 +42,18 @@ temp_cmp false true = refl
 temp_cmp false false = refl
 
 pub coll_cmp_pg : (p s q z : ℕ) (t u : Bool)
-    → coll_field_cmp (Pg p s t) (Pg q z u) ≡ ordering_then (nat_cmp p q) (ordering_then (nat_cmp s z) (bool_cmp t u))
+    → coll_field_cmp (Pg p s t) (Pg q z u) ≡ ordering_then (ordering_then (nat_cmp p q) (nat_cmp s z)) (bool_cmp t u)
 unfolding coll_field_cmp
-coll_cmp_pg p s q z t u = simp (then_Equal, temp_cmp)
+coll_cmp_pg p s q z t u = simp (then_Equal, temp_cmp, then_assoc)
 
 abbrev digit_cmp : ℕ → ℕ → ℕ → Ordering
 digit_cmp a b level = nat_cmp (digit_at a level) (digit_at b level)
 
 pub hash_parts : (a b : ℕ)
     → slice_cmp nat_cmp (hash_digits a) (hash_digits b)
-    ≡ ordering_then (digit_cmp a b 0) (ordering_then (digit_cmp a b 1) (ordering_then (digit_cmp a b 2) (ordering_then (digit_cmp a b 3)
-    (ordering_then (digit_cmp a b 4) (ordering_then (digit_cmp a b 5) (ordering_then (digit_cmp a b 6) (digit_cmp a b 7)))))))
-hash_parts a b = simp then_Equal
+    ≡ ordering_then (ordering_then (ordering_then (ordering_then (ordering_then (ordering_then (ordering_then (digit_cmp a b 0) (digit_cmp a b 1)) (digit_cmp a b 2)) (digit_cmp a b 3))
+    (digit_cmp a b 4)) (digit_cmp a b 5)) (digit_cmp a b 6)) (digit_cmp a b 7)
+hash_parts a b = simp (then_Equal, then_assoc)
 
 -- Two pieces, each ended by a byte that neither holds, compare first: the rest counts only where they are equal.
 abbrev pub Lacks : ℕ → List ℕ → Type 0
@@ -57,11 +62,6 @@ Lacks z (x ∷ xs) = (x ≢ z) × Lacks z xs
 
 apart : (x y : ℕ) (r s : Ordering) → x ≢ y → ordering_then (nat_cmp x y) r ≡ ordering_then (nat_cmp x y) s
 apart x y r s other = grind (arith, nat_tests)
-
-then_assoc : (a b c : Ordering) → ordering_then a (ordering_then b c) ≡ ordering_then (ordering_then a b) c
-then_assoc Less b c = refl
-then_assoc Equal b c = refl
-then_assoc Greater b c = refl
 
 cut_left : (x y : ℕ) (r s t : Ordering) → x ≢ y → ordering_then (nat_cmp x y) r ≡ ordering_then (ordering_then (nat_cmp x y) s) t
 cut_left x y r s t other = apart x y r (ordering_then s t) other ∙ then_assoc (nat_cmp x y) s t

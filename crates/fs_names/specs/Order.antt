@@ -153,4 +153,4 @@ same_ties {R = R} {S = S} r s same_r same_s x y =
 
 -- the parts of a comparison of object names
 abbrev pub parts_cmp : Ordering → Ordering → Ordering → Ordering → Ordering → Ordering → Ordering
-parts_cmp a b c d e f = ordering_then a (ordering_then b (ordering_then c (ordering_then d (ordering_then e f))))
+parts_cmp a b c d e f = ordering_then (ordering_then (ordering_then (ordering_then (ordering_then a b) c) d) e) f

@@ -6,7 +6,7 @@ use Rattle.std.specs.Str.{bytes_eq}
 use Rattle.std.specs.Str.Parse.{digits_value}
 use Rattle.fs_names.specs.Names.{IsName, escape_fault, length_fault}
 use Rattle.fs_names.specs.Numbers.{number_of}
-use Rattle.fs_names.specs.Text.{hash_text, oid_text, coll_text}
+use Rattle.fs_names.specs.Text.{hash_text}
 use Rattle.fs_names.specs.declared.fault.NameFault.{NameFault}
 use Rattle.fs_names.specs.declared.fault.NameFault.TheVariants.{BadField}
 use Rattle.fs_names.specs.declared.oid.Snap.{Snap}
@@ -94,25 +94,13 @@ oid_from None name key nspace (Some snap) (Some hash) (Some pool) =
     Ok (record { name = name; key = key; nspace = nspace; snap = snap; hash = hash; pool = pool })
 
 -- the object that six fields name
+unfoldable pub oid_of_six : List ℕ → List ℕ → List ℕ → List ℕ → List ℕ → List ℕ → Result Oid NameFault
+oid_of_six name key snap hash nspace pool = oid_from (names_fault name key snap hash nspace) name key nspace (snap_of snap) (hash_of hash) (pool_of pool)
+
 abbrev pub oid_of_fields : List (List ℕ) → Result Oid NameFault
-oid_of_fields (name ∷ key ∷ snap ∷ hash ∷ nspace ∷ pool ∷ []) =
-    oid_from (names_fault name key snap hash nspace) name key nspace (snap_of snap) (hash_of hash) (pool_of pool)
+oid_of_fields (name ∷ key ∷ snap ∷ hash ∷ nspace ∷ pool ∷ []) = oid_of_six name key snap hash nspace pool
 oid_of_fields _ = Err (BadField 6)
 
 -- the object that a text names, or the first fault of the text
 unfoldable pub oid_of : List ℕ → Result Oid NameFault
 oid_of text = oid_of_fields (slice_split is_underscore text)
-
--- An object's text is read as the object, and a text that is read as an object is the object's text. So no two texts name one
--- object, and no two objects have one text.
-abbrev pub OidTextsAreRead : Type 0
-OidTextsAreRead = (o : Oid) → OidFits o → oid_of (oid_text o) ≡ Ok o
-
-abbrev pub OidsReadAreSpelled : Type 0
-OidsReadAreSpelled = (text : List ℕ) (o : Oid) → oid_of text ≡ Ok o → (oid_text o ≡ text) × OidFits o
-
-abbrev pub CollTextsAreRead : Type 0
-CollTextsAreRead = (c : Coll) → CollFits c → coll_of (coll_text c) ≡ Some c
-
-abbrev pub CollsReadAreSpelled : Type 0
-CollsReadAreSpelled = (text : List ℕ) (c : Coll) → coll_of text ≡ Some c → (coll_text c ≡ text) × CollFits c

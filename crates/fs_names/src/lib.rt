@@ -3,17 +3,26 @@
 
 mod coll;
 mod coll_reading;
+mod coll_text;
 mod fault;
+mod hash;
+mod laws;
 mod name;
 mod number;
 mod oid;
+mod oid_reading;
+mod oid_text;
 mod order;
 mod split;
 
 pub use coll::Coll;
 pub use coll_reading::decode_coll;
+pub use coll_text::{CollText, encode_coll};
 pub use fault::{CollFault, NameFault};
+pub use hash::{digit, order_hash};
+pub use laws::{coll_texts_law, name_law, oid_texts_law};
 pub use name::Name;
 pub use number::{decimal, hexadecimal, number_law};
 pub use oid::{Oid, Snap};
-pub use order::{digit, order_hash};
+pub use oid_reading::decode_oid;
+pub use oid_text::{OidText, encode_oid};

@@ -1,0 +1,104 @@
+-- The texts of snaps, pools and hashes, as they are read.
+use Rattle.std.proofs.Common.{◌≡◌, ◌≢◌, ℕ, ◌^◌, ◌<◌, ◌≤◌, ◌==◌, ◌&&◌, Bool, true, false, not, cond, codes, List, [], ◌∷◌, ◌++◌, length, get_or, Option, Some, None, IfSome, refl, sym, ap, subst, ◌∙◌, arith}
+use Rattle.std.proofs.lemmas.Bool.{both_ways, cond-true, cond-false, false_from_ne_true}
+use Rattle.std.proofs.lemmas.Bool.Decides.{nat_tests}
+use Rattle.std.proofs.lemmas.List.Elements.{All-get_or, All-weaker}
+use Rattle.std.proofs.lemmas.List.Sums.{AllPass-from_list_all}
+use Rattle.std.proofs.lemmas.Slice.Eq.{bytes_eq-Decides}
+use Rattle.std.specs.Char.{is_ascii_graphic}
+use Rattle.std.specs.Fmt.{digits, digit_glyph}
+use Rattle.std.specs.List.{All, AllPass}
+use Rattle.std.specs.Option.{option_map}
+use Rattle.std.specs.Str.{bytes_eq}
+use Rattle.fs_names.specs.declared.oid.Snap.{Snap}
+use Rattle.fs_names.specs.declared.oid.Snap.TheVariants.{Head, Dir, Id}
+use Rattle.fs_names.specs.Numbers.{number_of, is_lower_digit}
+use Rattle.fs_names.specs.Reading.{SnapFits, snap_of, pool_of}
+use Rattle.fs_names.specs.Text.{snap_text, pool_text, hash_text}
+use Rattle.fs_names.proofs.Digits.{digits-lower, number_gives, number_reads}
+use Rattle.fs_names.proofs.Hashes.{hash_text-All}
+
+-- a byte that stands in a text between the bytes `_`, and prints
+abbrev pub is_inner : ℕ → Bool
+is_inner b = is_ascii_graphic b && not (b == 95)
+
+lower_inner : (base b : ℕ) → base ≤ 16 → is_lower_digit base b ≡ true → is_inner b ≡ true
+lower_inner base b high h = grind (arith, nat_tests)
+
+upper_inner : (d : ℕ) → d < 16 → is_inner (digit_glyph true d) ≡ true
+upper_inner d h = grind (arith, nat_tests)
+
+pub digits-inner : (base n : ℕ) → 2 ≤ base → base ≤ 16 → AllPass is_inner (digits base false n)
+digits-inner base n low high =
+    All-weaker (λ b. is_lower_digit base b ≡ true) (λ b. is_inner b ≡ true) (λ b. lower_inner base b high) _ (digits-lower base n low high)
+
+pub hash_text-inner : (h : ℕ) → AllPass is_inner (hash_text h)
+hash_text-inner h = hash_text-All (λ b. is_inner b ≡ true) h upper_inner
+
+pub snap_text-inner : (s : Snap) → AllPass is_inner (snap_text s)
+snap_text-inner Head = AllPass-from_list_all is_inner (codes "head") refl
+snap_text-inner Dir = AllPass-from_list_all is_inner (codes "snapdir") refl
+snap_text-inner (Id n) = digits-inner 16 n (omega arith) (omega arith)
+
+pub pool_text-inner : (p : Option ℕ) → AllPass is_inner (pool_text p)
+pool_text-inner None = AllPass-from_list_all is_inner (codes "none") refl
+pool_text-inner (Some n) = digits-inner 16 n (omega arith) (omega arith)
+
+-- no digits are a word that begins with another letter
+not_word : (n b : ℕ) (bs : List ℕ) → is_lower_digit 16 b ≡ false → bytes_eq (digits 16 false n) (b ∷ bs) ≡ false
+not_word n b bs other =
+    false_from_ne_true _ (λ e.
+    let same = (bytes_eq-Decides (digits 16 false n) (b ∷ bs)).0 e in
+    let all = subst (AllPass (is_lower_digit 16)) same (digits-lower 16 n (omega arith) (omega arith)) in
+    both_ways (is_lower_digit 16 b) other (All-get_or (λ b. is_lower_digit 16 b ≡ true) (b ∷ bs) 0 0 (omega arith) all))
+
+pub snap_of_text : (s : Snap) → SnapFits s → snap_of (snap_text s) ≡ Some s
+snap_of_text Head fits = refl
+snap_of_text Dir fits = refl
+snap_of_text (Id n) fits =
+    cond-false _ _ _ (not_word n 104 (codes "ead") refl) ∙ (cond-false _ _ _ (not_word n 115 (codes "napdir") refl)
+    ∙ ap (option_map Id) (number_reads 16 n (omega arith) (omega arith) fits))
+
+pub pool_of_text : (p : Option ℕ) → IfSome p (λ n. n < 2 ^ 64) → pool_of (pool_text p) ≡ Some p
+pool_of_text None fits = refl
+pool_of_text (Some n) fits =
+    cond-false _ _ _ (not_word n 110 (codes "one") refl) ∙ ap (option_map Some) (number_reads 16 n (omega arith) (omega arith) fits)
+
+-- and what is read is so spelled
+id_given : (text : List ℕ) (o : Option ℕ) (s : Snap) → number_of 16 text ≡ o → option_map Id o ≡ Some s → (snap_text s ≡ text) × SnapFits s
+id_given text None s e f = cc
+id_given text (Some n) s e f =
+    let p = number_gives 16 text n e in
+    let same : Id n ≡ s = cc in
+    subst (λ x. (snap_text x ≡ text) × SnapFits x) same (sym p.1, p.0)
+
+pub snap_given : (text : List ℕ) (s : Snap) → snap_of text ≡ Some s → (snap_text s ≡ text) × SnapFits s
+snap_given text s e = by (bytes_eq text (codes "head")) (bytes_eq text (codes "snapdir")) refl refl e
+  where
+    by : (a b : Bool) → bytes_eq text (codes "head") ≡ a → bytes_eq text (codes "snapdir") ≡ b
+        → cond a (Some Head) (cond b (Some Dir) (option_map Id (number_of 16 text))) ≡ Some s → (snap_text s ≡ text) × SnapFits s
+    by true b h d f =
+        let same : Head ≡ s = cc in
+        subst (λ x. (snap_text x ≡ text) × SnapFits x) same (sym ((bytes_eq-Decides text (codes "head")).0 h), tt)
+    by false true h d f =
+        let same : Dir ≡ s = cc in
+        subst (λ x. (snap_text x ≡ text) × SnapFits x) same (sym ((bytes_eq-Decides text (codes "snapdir")).0 d), tt)
+    by false false h d f = id_given text (number_of 16 text) s refl f
+
+some_given : (text : List ℕ) (o : Option ℕ) (p : Option ℕ) → number_of 16 text ≡ o → option_map Some o ≡ Some p
+    → (pool_text p ≡ text) × IfSome p (λ n. n < 2 ^ 64)
+some_given text None p e f = cc
+some_given text (Some n) p e f =
+    let q = number_gives 16 text n e in
+    let same : Some n ≡ p = cc in
+    subst (λ x. (pool_text x ≡ text) × IfSome x (λ n. n < 2 ^ 64)) same (sym q.1, q.0)
+
+pub pool_given : (text : List ℕ) (p : Option ℕ) → pool_of text ≡ Some p → (pool_text p ≡ text) × IfSome p (λ n. n < 2 ^ 64)
+pool_given text p e = by (bytes_eq text (codes "none")) refl e
+  where
+    by : (a : Bool) → bytes_eq text (codes "none") ≡ a → cond a (Some None) (option_map Some (number_of 16 text)) ≡ Some p
+        → (pool_text p ≡ text) × IfSome p (λ n. n < 2 ^ 64)
+    by true h f =
+        let same : None ≡ p = cc in
+        subst (λ x. (pool_text x ≡ text) × IfSome x (λ n. n < 2 ^ 64)) same (sym ((bytes_eq-Decides text (codes "none")).0 h), tt)
+    by false h f = some_given text (number_of 16 text) p refl f
