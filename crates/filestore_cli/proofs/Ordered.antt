@@ -75,10 +75,10 @@ pub gathered_more : (cursor : Option Oid) (names old left keys new : List Oid) (
 gathered_more cursor names old left keys new x g cut up added = record {
   ordered = up;
   members = λ q.
-    g.members q ∙ ap (λ (l : List Oid). list_any (ties q) keys || (at_or_after cursor q && among l q)) cut
-    ∙ ap (λ (t : Bool). list_any (ties q) keys || (at_or_after cursor q && t)) (list_any-append (ties q) left (x ∷ []))
-    ∙ shuffle (list_any (ties q) keys) (at_or_after cursor q) (among left q) (ties q x)
-    ∙ ap (λ (t : Bool). t || (at_or_after cursor q && among left q)) (sym (added q));
+      g.members q ∙ ap (λ (l : List Oid). list_any (ties q) keys || (at_or_after cursor q && among l q)) cut
+      ∙ ap (λ (t : Bool). list_any (ties q) keys || (at_or_after cursor q && t)) (list_any-append (ties q) left (x ∷ []))
+      ∙ shuffle (list_any (ties q) keys) (at_or_after cursor q) (among left q) (ties q x)
+      ∙ ap (λ (t : Bool). t || (at_or_after cursor q && among left q)) (sym (added q));
 }
   where
     shuffle : (k c l t : Bool) → (k || (c && (l || (t || false)))) ≡ ((k || (c && t)) || (c && l))
@@ -114,6 +114,7 @@ any-filter cursor (x ∷ l) q =
     one : (b : Bool) (x : Oid) (rest : List Oid) (q : Oid) → list_any (ties q) (cond b (x ∷ rest) rest) ≡ ((b && ties q x) || list_any (ties q) rest)
     one true x rest q = refl
     one false x rest q = refl
+
     share : (c t a : Bool) → ((c && t) || (c && a)) ≡ (c && (t || a))
     share true t a = refl
     share false t a = refl
@@ -133,5 +134,5 @@ pub listed : (cursor : Option Oid) (s : Shelf) (names keys : List Oid) → IsStr
     → ((q : Oid) → list_any (ties q) keys ≡ (at_or_after cursor q && among names q)) → keys ≡ from_cursor s cursor
 listed cursor s names keys up all members =
     one_rising oid_cmp oid_cmp_total oid_cmp-IsAntisymmetric keys (from_cursor s cursor) (rising keys up)
-      (rising (from_cursor s cursor) (IsStrictlySortedBy-filter oid_cmp (at_or_after cursor) (map.keys s) (sorted (map.keys s) (keys-rise s))))
-      (λ q. members q ∙ ap (λ (t : Bool). at_or_after cursor q && t) (all q ∙ map.contains_key-keys s q) ∙ sym (any-filter cursor (map.keys s) q))
+    (rising (from_cursor s cursor) (IsStrictlySortedBy-filter oid_cmp (at_or_after cursor) (map.keys s) (sorted (map.keys s) (keys-rise s))))
+    (λ q. members q ∙ ap (λ (t : Bool). at_or_after cursor q && t) (all q ∙ map.contains_key-keys s q) ∙ sym (any-filter cursor (map.keys s) q))

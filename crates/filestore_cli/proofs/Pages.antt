@@ -24,11 +24,12 @@ use Rattle.filestore_cli.proofs.Ordered.{listed}
 seam : (oids rest : List Oid) (x : Oid) → slice_get (oids ++ x ∷ rest) (length oids) ≡ Some x
 seam oids rest x =
     let here : (d : Oid) → get_or (oids ++ x ∷ rest) (length oids) d ≡ x =
-      λ d. get_or-append_right oids (x ∷ rest) (length oids) (length oids) d refl (omega arith) ∙ ap (λ (k : ℕ). get_or (x ∷ rest) k d) (nothing (length oids)) in
+    λ d. get_or-append_right oids (x ∷ rest) (length oids) (length oids) d refl (omega arith) ∙ ap (λ (k : ℕ). get_or (x ∷ rest) k d) (nothing (length oids)) in
     ⊎_elim (λ h. h.2 ∙ ap Some (sym h.3 ∙ here h.0)) (λ h. absurd (past oids rest x h.0)) (slice_get_cases (oids ++ x ∷ rest) (length oids)).1
   where
     nothing : (n : ℕ) → n - n ≡ 0
     nothing n = omega arith
+
     past : (oids rest : List Oid) (x : Oid) → length (oids ++ x ∷ rest) ≤ length oids → ⊥
     past oids rest x h = omega (arith, length-append oids (x ∷ rest))
 
@@ -65,9 +66,9 @@ page_is O c first cursor max found names keys r there once is same members up pa
     let shelf : map.get O c ≡ Some (shelf_of O c) = shelf_there (map.get O c) (sym there ∙ ap is_some is) in
     let keys_are : keys ≡ from_cursor (shelf_of O c) cursor = all ∙ ap (from_cursor (shelf_of O c)) same in
     on_ok (λ a. a ≡ Listed (take max keys) (slice_get keys max)) (λ a. a ≡ page_answer (listing O c cursor max)) r
-      (λ a h. h ∙ ap (λ (l : List Oid). Listed (take max l) (slice_get l max)) keys_are
-        ∙ ap (λ (g : Option Shelf). page_answer (option_map (λ s. record { oids = take max (from_cursor s cursor); next = slice_get (from_cursor s cursor) max }) g)) (sym shelf))
-      page
+    (λ a h. h ∙ ap (λ (l : List Oid). Listed (take max l) (slice_get l max)) keys_are
+    ∙ ap (λ (g : Option Shelf). page_answer (option_map (λ s. record { oids = take max (from_cursor s cursor); next = slice_get (from_cursor s cursor) max }) g)) (sym shelf))
+    page
 
 -- a set from which no first object is taken is empty
 pub emptied : (keys : List Oid) (r : Option Oid) → (IsSome r ↔ (0 < length keys)) → ((x : Oid) → r ≡ Some x → ⊥) → keys ≡ []

@@ -79,13 +79,13 @@ done_more script old rest s t line before was now d cut step wrote = record {
   cut = d.cut ∙ ap (λ (l : List Line). d.lines ++ l) cut ∙ sym (append_assoc d.lines (line ∷ []) rest);
   store = step ∙ ap (λ (u : Session). after u line.statement) d.store ∙ sym (after_more new_session d.lines line);
   written =
-    wrote ∙ ap (λ (w : Option (List ℕ)). followed_by w (answer_text (answer_to s line.statement))) d.written
-    ∙ followed-append before (answers_text new_session d.lines) (answer_text (answer_to s line.statement))
-    ∙ ap (followed_by before) (
+      wrote ∙ ap (λ (w : Option (List ℕ)). followed_by w (answer_text (answer_to s line.statement))) d.written
+      ∙ followed-append before (answers_text new_session d.lines) (answer_text (answer_to s line.statement))
+      ∙ ap (followed_by before) (
       ap (λ (u : Session). answers_text new_session d.lines ++ answer_text (answer_to u line.statement)) d.store
       ∙ ap (λ (t : List ℕ). answers_text new_session d.lines ++ t) (sym (answers-one (after_all new_session d.lines) line))
       ∙ sym (answers-append new_session d.lines (line ∷ []))
-    );
+      );
 }
 
 pub done_all : (script rest : List Line) (s : Session) (before now : Option (List ℕ)) → Done script rest s before now → rest ≡ [] → now ≡ followed_by before (answers_text new_session script)
@@ -109,21 +109,27 @@ done_part script old rest s line before was now d cut n wrote =
     let one : List ℕ = answer_text (answer_to s line.statement) in
     let more : List ℕ = answers_text (after s line.statement) rest in
     let all : answers_text new_session script ≡ front ++ (one ++ more) =
-      ap (answers_text new_session) (d.cut ∙ ap (λ (l : List Line). d.lines ++ l) cut) ∙ answers-append new_session d.lines (line ∷ rest)
-      ∙ ap (λ (u : Session). front ++ answers_text u (line ∷ rest)) (sym d.store) ∙ ap (λ (t : List ℕ). front ++ t) (answers-cons s line rest) in
-    let m : ℕ = length front + length (take n one) in
-    (m, wrote ∙ ap (λ (w : Option (List ℕ)). followed_by w (take n one)) d.written ∙ followed-append before front (take n one)
-      ∙ ap (followed_by before) (sym (ap (take m) all ∙ take-append-add front (one ++ more) (length (take n one)) ∙ ap (λ (t : List ℕ). front ++ t) (beginning one more n))))
+    ap (answers_text new_session) (d.cut ∙ ap (λ (l : List Line). d.lines ++ l) cut) ∙ answers-append new_session d.lines (line ∷ rest)
+    ∙ ap (λ (u : Session). front ++ answers_text u (line ∷ rest)) (sym d.store) ∙ ap (λ (t : List ℕ). front ++ t) (answers-cons s line rest) in
+    let m : ℕ = length front + length (take n one) in (
+      m,
+      wrote ∙ ap (λ (w : Option (List ℕ)). followed_by w (take n one)) d.written ∙ followed-append before front (take n one)
+          ∙ ap (followed_by before) (sym (ap (take m) all ∙ take-append-add front (one ++ more) (length (take n one)) ∙ ap (λ (t : List ℕ). front ++ t) (beginning one more n))),
+    )
 
 -- the lines that are done, and then the last line
 pub done_end : (script old : List Line) (s : Session) (f0 f1 f2 : ℕ) (before was now : Option (List ℕ)) (line : List ℕ) → Done script old s before was → f0 ≤ f1
     → EndsWith (taken f1 f2 was now) [] line → (done : List Line) × (rest : List Line) × (script ≡ done ++ rest) × EndsWith (taken f0 f2 before now) (answers_text new_session done) line
 done_end script old s f0 f1 f2 before was now line d le ends =
-    let front : List ℕ = answers_text new_session d.lines in
-    (d.lines, old, d.cut, ⊎_elim
-      (λ w. inl (w ∙ ap (λ (b : Option (List ℕ)). followed_by b line) d.written ∙ followed-append before front line))
-      (λ w. inr (counted_since f0 f1 f2 le w.0, (w.1.0, w.1.1 ∙ ap (λ (b : Option (List ℕ)). followed_by b (take w.1.0 line)) d.written ∙ followed-append before front (take w.1.0 line))))
-      ends)
+    let front : List ℕ = answers_text new_session d.lines in (
+      d.lines,
+      old,
+      d.cut,
+      ⊎_elim
+          (λ w. inl (w ∙ ap (λ (b : Option (List ℕ)). followed_by b line) d.written ∙ followed-append before front line))
+          (λ w. inr (counted_since f0 f1 f2 le w.0, (w.1.0, w.1.1 ∙ ap (λ (b : Option (List ℕ)). followed_by b (take w.1.0 line)) d.written ∙ followed-append before front (take w.1.0 line))))
+          ends,
+    )
 
 -- a front of the text is a beginning of it
 pub front_begins : (f0 f1 : ℕ) (before now : Option (List ℕ)) (piece text : List ℕ) → WritesFront before now piece → piece ≡ text → WritesBeginning (taken f0 f1 before now) text

@@ -22,7 +22,7 @@ pub kept_new : (O : Objects) (waiting : List Txn) (S : CollSet) → O ≡ map.em
     → IsKept (record { objects = O; waiting = waiting; last = 0 }) S
 kept_new O waiting S o w s =
     subst (λ (ws : List Txn). IsKept (record { objects = O; waiting = ws; last = 0 }) S) (sym w)
-      (record { colls_are = s ∙ sym colls_of-empty ∙ ap colls_of (sym o); fit = tt; numbers = omega arith })
+    (record { colls_are = s ∙ sym colls_of-empty ∙ ap colls_of (sym o); fit = tt; numbers = omega arith })
 
 all_append : {X : Type 0} (P : X → Type 0) (xs ys : List X) → AllByRecursion P xs → AllByRecursion P ys → AllByRecursion P (xs ++ ys)
 all_append P [] ys h k = k
@@ -34,12 +34,12 @@ pub kept_queued : (O : Objects) (old new : List Txn) (S T : CollSet) (last next 
     → IsKept (record { objects = O; waiting = new; last = next }) T
 kept_queued O old new S T last next txn kept accepted after room up more =
     let ops : waiting_ops (record { objects = O; waiting = old ++ txn ∷ []; last = next }) ≡ waiting_ops (record { objects = O; waiting = old; last = last }) ++ txn.ops =
-      flat_map-append (λ (t : Txn). t.ops) old (txn ∷ []) ∙ ap (λ (l : List Op). flat_map (λ (t : Txn). t.ops) old ++ l) (append-nil txn.ops) in
+    flat_map-append (λ (t : Txn). t.ops) old (txn ∷ []) ∙ ap (λ (l : List Op). flat_map (λ (t : Txn). t.ops) old ++ l) (append-nil txn.ops) in
     subst (λ (ws : List Txn). IsKept (record { objects = O; waiting = ws; last = next }) T) (sym more) (record {
       colls_are =
-        after ∙ ap (λ (s : CollSet). colls_after s txn.ops) kept.colls_are
-        ∙ sym (fold-append op_colls (colls_of O) (waiting_ops (record { objects = O; waiting = old; last = last })) txn.ops)
-        ∙ ap (colls_after (colls_of O)) (sym ops);
+          after ∙ ap (λ (s : CollSet). colls_after s txn.ops) kept.colls_are
+          ∙ sym (fold-append op_colls (colls_of O) (waiting_ops (record { objects = O; waiting = old; last = last })) txn.ops)
+          ∙ ap (colls_after (colls_of O)) (sym ops);
       fit = all_append (λ (t : Txn). AllByRecursion IsWithinLimits t.ops) old (txn ∷ []) kept.fit (within_limits S txn.ops accepted, tt);
       numbers = omega arith;
     })

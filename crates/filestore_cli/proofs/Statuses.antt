@@ -47,7 +47,7 @@ pub not_run : (status : ℕ) (old left : Option (List ℕ)) (sink : Taken) → E
 not_run status None left sink ends done part = tt
 not_run status (Some bytes) left sink ends done part = λ refused said.
     by_status status ends (λ e. let a = done e in both bytes a.script refused a.said said) (λ e. inl e) (λ e. inr (inl e))
-      (λ e. let a = part e in both bytes a.script refused a.said said) (λ e. inr (inr e))
+    (λ e. let a = part e in both bytes a.script refused a.said said) (λ e. inr (inr e))
 
 pub is_done : (status : ℕ) (old left : Option (List ℕ)) (sink : Taken) → Ends status → (status ≡ 2 → IfSome old (λ bytes. Refuses bytes left sink))
     → (status ≡ 5 → ⊥) → (status ≡ 6 → ⊥) → IfSome old (IsDone status)

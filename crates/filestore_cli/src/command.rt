@@ -15,7 +15,8 @@ pub fn read_command(words: &[Text]) -> Option<Command>
     ensures { result ≡ command_of words.now }
 {
     match words {
-        [run, new] => (run.slice() == b"run".as_slice() && new.slice() == b"new".as_slice()).then_some(Command::RunNew),
+        [run, new] => (run.slice() == b"run".as_slice()
+            && new.slice() == b"new".as_slice()).then_some(Command::RunNew),
         _ => None,
     }
 }

@@ -14,12 +14,16 @@ use crate::command::{Command, read_command};
 use crate::status::Status;
 use crate::step::step;
 use crate::store::PlainStore;
-use fs_script::{SCRIPT_LIMIT, Script, ScriptFault, ScriptWhy, Statement, parse_script, print_answer, print_refusal};
+use fs_script::{
+    SCRIPT_LIMIT, Script, ScriptFault, ScriptWhy, Statement, parse_script, print_answer,
+    print_refusal,
+};
 use io_edge::{ReadFault, Sink, Source, Text, read_all, write_all};
 use std::alloc::Global;
 
 /// What is printed where the words are no command.
-pub const USAGE_LINE: &str = "usage: mkfs [--fsid=F] [--merge=N] [--split=N] [--lfn=N] [--mode=wal or parallel], run [new], list C, check, workload SEED N\n";
+pub const USAGE_LINE: &str =
+    "usage: mkfs [--fsid=F] [--merge=N] [--split=N] [--lfn=N] [--mode=wal or parallel], run [new], list C, check, workload SEED N\n";
 
 /// What is printed where the source counted a fault.
 pub const READ_LINE: &str = "fault: read\n";

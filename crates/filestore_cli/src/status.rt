@@ -13,9 +13,14 @@ pub struct Status(pub u8);
 
 impl Status {
     pub const DONE: Status = Status(0);
+
     pub const USAGE: Status = Status(1);
+
     pub const REFUSED: Status = Status(2);
+
     pub const SOURCE: Status = Status(5);
+
     pub const SINK: Status = Status(6);
+
     pub const MEMORY: Status = Status(9);
 }

@@ -9,7 +9,11 @@ use std::alloc::{AllocError, Global};
 
 #[tactic(auto, unfolding(fs_script::specs::Answers::answer_to, fs_script::specs::Answers::after))]
 /// Does what a statement says, and answers it. A store that ran out of memory is given up.
-pub fn step(alloc: Global, store: &mut PlainStore, statement: Statement) -> Result<Answer, AllocError>
+pub fn step(
+    alloc: Global,
+    store: &mut PlainStore,
+    statement: Statement,
+) -> Result<Answer, AllocError>
     ensures answer { IfOk result (λ answer. answer ≡ answer_to store.old statement) }
     ensures after { OnOk result (store.new ≡ after store.old statement) }
 {

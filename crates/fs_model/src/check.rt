@@ -169,3 +169,10 @@ pub fn add_txn(txn: &Txn, colls: &mut CollList) -> Result<(), TxnFault>
     }
     Ok(())
 }
+
+/// Takes a transaction back that was added last. It costs what the transaction holds.
+pub fn undo_txn(txn: &Txn, colls: &mut CollList)
+    ensures { (S : CollSet) → txn_refusal S txn.now.ops ≡ None → colls.old ≡ colls_after S txn.now.ops → colls.new ≡ S }
+{
+    colls.undo(txn.ops.slice());
+}

@@ -12,7 +12,7 @@ mod pair;
 mod plain;
 
 pub use blob::Blob;
-pub use check::{CollList, add_txn, check_txn};
+pub use check::{CollList, add_txn, check_txn, undo_txn};
 pub use laws::{colls_law, names_law, overwrite_law, refusal_law};
 pub use limits::{OBJECT_BYTES, TXN_OPS, WRITE_BYTES};
 pub use object::PlainObject;

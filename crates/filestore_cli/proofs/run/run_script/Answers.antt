@@ -15,9 +15,10 @@ returns-in-Err-clause-memory g c =
     λ nine. done_end _ _ _ _ _ _ _ _ _ _ c.loop-line.invariant.0 c.loop-line.invariant.1 (c.in-Err.ensures.memory nine)
 
 pub loop-line-preserved : goal.loop-line-preserved
-loop-line-preserved g c =
-    (done_more _ _ _ _ _ c.in-Some.line _ _ _ c.loop-line.invariant.0 c.in-Some.ensures.first c.in_default-answer.ensures.after c.in_default-answer.ensures.written,
-      omega (arith, c.loop-line.invariant.1, c.answer.ensures.later))
+loop-line-preserved g c = (
+  done_more _ _ _ _ _ c.in-Some.line _ _ _ c.loop-line.invariant.0 c.in-Some.ensures.first c.in_default-answer.ensures.after c.in_default-answer.ensures.written,
+  omega (arith, c.loop-line.invariant.1, c.answer.ensures.later),
+)
 
 pub returns-clause-done : goal.returns-clause-done
 returns-clause-done g c = λ zero. done_all _ _ _ _ _ c.loop-line.invariant.0 c.in_default.ensures.none
