@@ -10,6 +10,8 @@ mod run;
 mod status;
 mod step;
 mod store;
+#[cfg(test)]
+mod tests;
 
 use io_edge::{RealSink, RealSource, Text, write_all};
 use run::{MEMORY_LINE, USAGE_LINE, run};
