@@ -66,3 +66,25 @@ impl Schedule {
         self.faults
     }
 }
+
+#[cfg(test)]
+mod tests {
+    use crate::{FaultCount, Schedule};
+    use std::test::Fail;
+
+    #[test]
+    fn scheduled_calls_fail_and_are_counted(rt: HostRuntime) -> Result<(), Fail> {
+        let mut schedule = Schedule::new(vec![in rt.alloc(); 2, 4]?);
+        for (fails, calls, faults) in [(false, 1, 0), (true, 2, 1), (false, 3, 1), (true, 4, 2)] {
+            assert_eq!(rt; schedule.next(), fails);
+            assert_eq!(rt; schedule.calls(), calls);
+            assert_eq!(rt; schedule.faults(), faults);
+        }
+        schedule.fault();
+        assert_eq!(rt; schedule.faults(), 3);
+        let mut count = FaultCount::new();
+        count.rise();
+        assert_eq!(rt; count.get(), 1);
+        Ok(())
+    }
+}
