@@ -235,3 +235,15 @@ within_from S k (op ∷ ops) e =
 pub within_limits : (S : CollSet) (ops : List Op) → txn_refusal S ops ≡ None → AllByRecursion IsWithinLimits ops
 within_limits S [] e = tt
 within_limits S (op ∷ ops) e = within_from S 0 (op ∷ ops) e
+
+-- and the operations are no more than their limit
+few_from : (S : CollSet) (k : ℕ) (ops : List Op) → k ≤ 4096 → refusal_from S k ops ≡ None → k + length ops ≤ 4096
+few_from S k [] few e = omega arith
+few_from S k (op ∷ ops) few e =
+    let parts = none_at (refusal_at S k op) k (refusal_from (op_colls S op) (k + 1) ops) e in
+    let rest : (k + 1) + length ops ≤ 4096 = few_from (op_colls S op) (k + 1) ops (below_limit S k op few parts.0) parts.1 in
+    omega arith
+
+pub few_operations : (S : CollSet) (ops : List Op) → txn_refusal S ops ≡ None → length ops ≤ 4096
+few_operations S [] e = omega arith
+few_operations S (op ∷ ops) e = omega (arith, few_from S 0 (op ∷ ops) (omega arith) e)

@@ -6,6 +6,7 @@ ghost use Rattle.std.specs.FinMap as map;
 ghost use Rattle.fs_names.specs.declared.coll.Coll.{Coll};
 ghost use Rattle.fs_names.specs.declared.oid.Oid.{Oid};
 ghost use Rattle.fs_names.specs.Order.{oid_cmp};
+ghost use Rattle.fs_model.specs.declared.limits.TheConstants.{TXN_OPS};
 ghost use Rattle.fs_model.specs.declared.op.Op.{Op};
 ghost use Rattle.fs_model.specs.declared.op.Why.{Why};
 ghost use Rattle.fs_model.specs.Objects.{Objects, Shelf};
@@ -19,6 +20,7 @@ pub fn refusal_law()
     ensures refused { (S : CollSet) (ops : List Op) (k : ℕ) (why : Why) → (txn_refusal S ops ≡ Some (k, why)) ↔ IsFirstRefused S ops k why }
     ensures accepted { (S : CollSet) (ops : List Op) → (txn_refusal S ops ≡ None) ↔ IsAccepted S ops }
     ensures within { (S : CollSet) (ops : List Op) → txn_refusal S ops ≡ None → AllByRecursion IsWithinLimits ops }
+    ensures few { (S : CollSet) (ops : List Op) → txn_refusal S ops ≡ None → length ops ≤ TXN_OPS }
 {}
 
 /// The collections of objects go by the operations alone.

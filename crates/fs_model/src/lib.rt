@@ -20,3 +20,6 @@ pub use oids::OidList;
 pub use op::{Op, OpList, Txn, TxnFault, Why};
 pub use pair::{Pair, PairList};
 pub use plain::PlainObjects;
+
+#[cfg(test)]
+mod tests;
