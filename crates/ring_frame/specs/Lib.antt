@@ -1,0 +1,6 @@
+pub mod Frame
+pub mod Faults
+pub mod Told
+pub mod Facts
+pub mod Heads
+pub mod Put

@@ -1,0 +1,15 @@
+//! Entries and headers of a journal ring on a device, with their seals.
+//!
+//! The device is counted in blocks of 4,096 bytes. Blocks 0 and 1 hold a header each, entries lie behind them. A seal
+//! finds bytes that a crash tore, and bytes that stand at another place, in another ring or on a device of another
+//! size. It is no proof against bytes that were made to fit.
+#![tactic(auto)]
+
+mod bytes;
+mod head;
+mod reading;
+mod spelling;
+
+pub use head::RingHead;
+pub use reading::{EntryHead, FrameFault, Framed, read_entry};
+pub use spelling::{need, seal};
