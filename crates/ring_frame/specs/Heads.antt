@@ -1,5 +1,5 @@
--- How a ring's header is spelled, and which of the two counts.
-use Rattle.std.specs.Prelude.{◌≡◌, ℕ, ◌+◌, ◌*◌, ◌%◌, ◌<◌, ◌≤◌, ◌^◌, Bool, ◌&&◌, leb, ltb, ◌==◌, List, [], ◌∷◌, ◌++◌, length, take, drop, Option, Some, None, if◌then◌else◌}
+-- How a ring's header is spelled, one block each, and which of the two counts.
+use Rattle.std.specs.Prelude.{◌≡◌, ℕ, ◌+◌, ◌*◌, ◌%◌, ◌<◌, ◌≤◌, ◌^◌, Bool, ◌&&◌, leb, ltb, ◌==◌, List, [], ◌∷◌, ◌++◌, length, take, drop, replicate, Option, Some, None, if◌then◌else◌}
 use Rattle.std.specs.Str.{bytes_eq}
 use Rattle.byteorder.specs.Endian.{big_bytes, big_number}
 use Rattle.sha1.specs.Sha1.{sha1}
@@ -13,10 +13,20 @@ ring_magic = 70 ∷ 83 ∷ 82 ∷ 73 ∷ 78 ∷ 71 ∷ 48 ∷ 49 ∷ []
 abbrev pub Head : Type 0
 Head = RingHead
 
--- the 64 bytes before the digest
+-- what stands before the digest: the magic, the ring's fsid and the numbers, each in 8 bytes with the highest first
 unfoldable pub head_bytes : Head → List ℕ
 head_bytes h =
     ring_magic ++ h.fsid ++ big_bytes 8 h.generation ++ big_bytes 8 h.epoch ++ big_bytes 8 h.start ++ big_bytes 8 h.seq ++ big_bytes 8 h.size
+
+-- the whole block: the digest of what stands before it, and zeros, which are not read
+unfoldable pub head_block : Head → List ℕ
+head_block h = head_bytes h ++ (sha1 (head_bytes h) ++ replicate 4012 0)
+
+-- the numbers fit their fields
+pub record HeadFits (h : Head) : Type 0 where
+  pub fsid_fits : length h.fsid ≡ 16
+  pub generation_fits : h.generation < 2 ^ 64
+  pub epoch_fits : h.epoch < 2 ^ 64
 
 -- what a block would tell, if it is a header
 abbrev pub told_head : List ℕ → Head
@@ -45,7 +55,7 @@ head_in size block =
     && (bytes_eq (take 20 (drop 64 block)) (sha1 (head_bytes (told_head block))) && head_fits size (told_head block))
     then Some (told_head block) else None
 
--- the one with the higher generation
+-- the one with the higher generation, the second where they tie
 abbrev pub newer : Option Head → Option Head → Option Head
 newer None o = o
 newer (Some a) None = Some a

@@ -29,7 +29,7 @@ four_puts x0 x1 x2 x3 x4 a b c d n i j k l li lj lk ln e1 e2 e3 e4 =
     let t4 : take n x4 ≡ a ++ b ++ c ++ d = ap (take n) e4 ∙ put_grows x3 k n d (a ++ b ++ c) ln (omega arith) t3 in
     sym (take_all n x4 (omega (arith, n4))) ∙ t4 ∙ append_assoc (a ++ b) c d ∙ append_assoc a b (c ++ d)
 
--- six fields, one after another
+-- six fields, one after another, and seven
 pub six_puts : (x0 x1 x2 x3 x4 x5 x6 m f p s e l : List ℕ) → length x0 ≡ 44 → length m ≡ 8 → length f ≡ 8 → length p ≡ 8 → length s ≡ 8 → length e ≡ 8 → length l ≡ 4
     → x1 ≡ put x0 0 m → x2 ≡ put x1 8 f → x3 ≡ put x2 16 p → x4 ≡ put x3 24 s → x5 ≡ put x4 32 e → x6 ≡ put x5 40 l → x6 ≡ m ++ f ++ p ++ s ++ e ++ l
 six_puts x0 x1 x2 x3 x4 x5 x6 m f p s e l n lm lf lp ls le ll e1 e2 e3 e4 e5 e6 =
@@ -55,3 +55,34 @@ two_puts x0 x1 x2 a b n la lb e1 e2 =
     let t1 : take 44 x1 ≡ a = ap (take 44) e1 ∙ put_grows x0 0 44 a [] (omega (arith, la)) (omega (arith, n)) refl in
     let t2 : take 64 x2 ≡ a ++ b = ap (take 64) e2 ∙ put_grows x1 44 64 b a (omega (arith, lb)) (omega (arith, n1)) t1 in
     sym (take_all 64 x2 (omega (arith, n2))) ∙ t2
+
+pub seven_puts : (x0 x1 x2 x3 x4 x5 x6 x7 m f g e s q z : List ℕ) → length x0 ≡ 64 → length m ≡ 8 → length f ≡ 16 → length g ≡ 8 → length e ≡ 8 → length s ≡ 8 → length q ≡ 8 → length z ≡ 8
+    → x1 ≡ put x0 0 m → x2 ≡ put x1 8 f → x3 ≡ put x2 24 g → x4 ≡ put x3 32 e → x5 ≡ put x4 40 s → x6 ≡ put x5 48 q → x7 ≡ put x6 56 z → x7 ≡ m ++ f ++ g ++ e ++ s ++ q ++ z
+seven_puts x0 x1 x2 x3 x4 x5 x6 x7 m f g e s q z n lm lf lg le ls lq lz e1 e2 e3 e4 e5 e6 e7 =
+    let n1 : length x1 ≡ 64 = ap length e1 ∙ length-put x0 0 m (omega (arith, n, lm)) ∙ n in
+    let n2 : length x2 ≡ 64 = ap length e2 ∙ length-put x1 8 f (omega (arith, n1, lf)) ∙ n1 in
+    let n3 : length x3 ≡ 64 = ap length e3 ∙ length-put x2 24 g (omega (arith, n2, lg)) ∙ n2 in
+    let n4 : length x4 ≡ 64 = ap length e4 ∙ length-put x3 32 e (omega (arith, n3, le)) ∙ n3 in
+    let n5 : length x5 ≡ 64 = ap length e5 ∙ length-put x4 40 s (omega (arith, n4, ls)) ∙ n4 in
+    let n6 : length x6 ≡ 64 = ap length e6 ∙ length-put x5 48 q (omega (arith, n5, lq)) ∙ n5 in
+    let n7 : length x7 ≡ 64 = ap length e7 ∙ length-put x6 56 z (omega (arith, n6, lz)) ∙ n6 in
+    let t1 : take 8 x1 ≡ m = ap (take 8) e1 ∙ put_grows x0 0 8 m [] (omega (arith, lm)) (omega (arith, n)) refl in
+    let t2 : take 24 x2 ≡ m ++ f = ap (take 24) e2 ∙ put_grows x1 8 24 f m (omega (arith, lf)) (omega (arith, n1)) t1 in
+    let t3 : take 32 x3 ≡ m ++ f ++ g = ap (take 32) e3 ∙ put_grows x2 24 32 g (m ++ f) (omega (arith, lg)) (omega (arith, n2)) t2 in
+    let t4 : take 40 x4 ≡ m ++ f ++ g ++ e = ap (take 40) e4 ∙ put_grows x3 32 40 e (m ++ f ++ g) (omega (arith, le)) (omega (arith, n3)) t3 in
+    let t5 : take 48 x5 ≡ m ++ f ++ g ++ e ++ s = ap (take 48) e5 ∙ put_grows x4 40 48 s (m ++ f ++ g ++ e) (omega (arith, ls)) (omega (arith, n4)) t4 in
+    let t6 : take 56 x6 ≡ m ++ f ++ g ++ e ++ s ++ q = ap (take 56) e6 ∙ put_grows x5 48 56 q (m ++ f ++ g ++ e ++ s) (omega (arith, lq)) (omega (arith, n5)) t5 in
+    let t7 : take 64 x7 ≡ m ++ f ++ g ++ e ++ s ++ q ++ z = ap (take 64) e7 ∙ put_grows x6 56 64 z (m ++ f ++ g ++ e ++ s ++ q) (omega (arith, lz)) (omega (arith, n6)) t6 in
+    sym (take_all 64 x7 (omega (arith, n7))) ∙ t7
+
+-- a block that is filled with three pieces
+pub three_puts : (x0 x1 x2 x3 a b c : List ℕ) (n i j : ℕ) → length x0 ≡ n → i ≡ length a → j ≡ i + length b → n ≡ j + length c
+    → x1 ≡ put x0 0 a → x2 ≡ put x1 i b → x3 ≡ put x2 j c → x3 ≡ a ++ (b ++ c)
+three_puts x0 x1 x2 x3 a b c n i j l li lj ln e1 e2 e3 =
+    let n1 : length x1 ≡ n = ap length e1 ∙ length-put x0 0 a (omega (arith, l)) ∙ l in
+    let n2 : length x2 ≡ n = ap length e2 ∙ length-put x1 i b (omega (arith, n1)) ∙ n1 in
+    let n3 : length x3 ≡ n = ap length e3 ∙ length-put x2 j c (omega (arith, n2)) ∙ n2 in
+    let t1 : take i x1 ≡ a = ap (take i) e1 ∙ put_grows x0 0 i a [] (omega arith) (omega arith) refl in
+    let t2 : take j x2 ≡ a ++ b = ap (take j) e2 ∙ put_grows x1 i j b a lj (omega arith) t1 in
+    let t3 : take n x3 ≡ a ++ b ++ c = ap (take n) e3 ∙ put_grows x2 j n c (a ++ b) ln (omega arith) t2 in
+    sym (take_all n x3 (omega (arith, n3))) ∙ t3 ∙ append_assoc a b c

@@ -1,7 +1,10 @@
 // Parts of a list of bytes, by their place.
-ghost use Rattle.std.specs.Prelude.{◌≡◌, ◌+◌, ◌-◌, ◌≤◌, length, replicate};
+ghost use Rattle.std.specs.Prelude.{◌≡◌, ◌+◌, ◌-◌, ◌≤◌, length, drop, replicate};
+ghost use Rattle.byteorder.specs.Endian.{big_number};
 ghost use Rattle.ring_frame.specs.Frame.{stands_at};
 ghost use Rattle.ring_frame.specs.Put.{put};
+
+use byteorder::{BigEndian, ByteOrder};
 
 /// Puts bytes at a place.
 pub fn put_at(into: &mut [u8], at: usize, bytes: &[u8])
@@ -26,4 +29,12 @@ pub fn stands_at(bytes: &[u8], at: usize, part: &[u8]) -> bool
     ensures { result ≡ stands_at bytes.now at part.now }
 {
     &bytes[at..at + part.len()] == part
+}
+
+/// The number in the 8 bytes at a place, the highest byte first.
+pub fn number_at(bytes: &[u8], at: usize) -> u64
+    requires { at + 8 ≤ length bytes.now }
+    ensures { result ≡ big_number 8 (drop at bytes.now) }
+{
+    BigEndian::read_u64(&bytes[at..])
 }

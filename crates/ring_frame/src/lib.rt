@@ -10,6 +10,6 @@ mod head;
 mod reading;
 mod spelling;
 
-pub use head::RingHead;
+pub use head::{RingHead, read_head, write_head};
 pub use reading::{EntryHead, FrameFault, Framed, read_entry};
 pub use spelling::{need, seal};

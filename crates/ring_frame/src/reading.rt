@@ -4,7 +4,7 @@ ghost use Rattle.ring_frame.specs.Frame.{need as need_of, entry};
 ghost use Rattle.ring_frame.specs.Faults.{frame_fault, seal_fault};
 ghost use Rattle.ring_frame.specs.Told.{framed};
 
-use crate::bytes::stands_at;
+use crate::bytes::{number_at, stands_at};
 use crate::spelling::{digest_of, need};
 use byteorder::{BigEndian, ByteOrder};
 
@@ -55,9 +55,9 @@ impl EntryHead {
         let mut digest = [0; 20];
         digest.copy_from_slice(&bytes[44..64]);
         EntryHead {
-            pos: BigEndian::read_u64(&bytes[16..]),
-            seq: BigEndian::read_u64(&bytes[24..]),
-            epoch: BigEndian::read_u64(&bytes[32..]),
+            pos: number_at(bytes, 16),
+            seq: number_at(bytes, 24),
+            epoch: number_at(bytes, 32),
             len: BigEndian::read_u32(&bytes[40..]),
             digest,
         }
