@@ -15,11 +15,6 @@ use Rattle.ring_frame.specs.Facts.{length-sha1}
 use Rattle.ring_frame.proofs.Numbers.{AreBytes, bytes_back_at}
 use Rattle.ring_frame.proofs.Seals.{part_stands, stands_from}
 
--- the same fields make the same header
-pub head_made : (f1 f2 : List ℕ) (g1 g2 e1 e2 s1 s2 q1 q2 z1 z2 : ℕ) → f1 ≡ f2 → g1 ≡ g2 → e1 ≡ e2 → s1 ≡ s2 → q1 ≡ q2 → z1 ≡ z2
-    → ◌≡◌ {A = Head} (record { fsid = f1; generation = g1; epoch = e1; start = s1; seq = q1; size = z1 }) (record { fsid = f2; generation = g2; epoch = e2; start = s2; seq = q2; size = z2 })
-head_made f1 f2 g1 g2 e1 e2 s1 s2 q1 q2 z1 z2 f g e s q z = λ i. record { fsid = f i; generation = g i; epoch = e i; start = s i; seq = q i; size = z i }
-
 -- with the magic in front, the first 64 bytes are spelled as they tell
 pub fields_are : (block : List ℕ) → 64 ≤ length block → AreBytes block → take 8 block ≡ ring_magic → take 64 block ≡ head_bytes (told_head block)
 unfolding head_bytes
