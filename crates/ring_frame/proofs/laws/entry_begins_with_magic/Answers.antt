@@ -1,0 +1,6 @@
+use Rattle.std.proofs.Common.{arith}
+use Rattle.ring_frame.specs.Facts.{entry_magic_first}
+use Rattle.ring_frame.proofs.laws.entry_begins_with_magic.Goals as goal
+
+pub returns : goal.returns
+returns c = λ fsid bytes place e h. entry_magic_first fsid place bytes e h
