@@ -25,13 +25,13 @@ fields_are block long small magic =
     let q : take 8 (drop 48 block) ≡ big_bytes 8 (big_number 8 (drop 48 block)) = sym (bytes_back_at 48 block (omega arith) small) in
     let z : take 8 (drop 56 block) ≡ big_bytes 8 (big_number 8 (drop 56 block)) = sym (bytes_back_at 56 block (omega arith) small) in
     take-add 56 8 block ∙ ap (λ (l : List ℕ). l ++ take 8 (drop 56 block)) (
-      take-add 48 8 block ∙ ap (λ (l : List ℕ). l ++ take 8 (drop 48 block)) (
-        take-add 40 8 block ∙ ap (λ (l : List ℕ). l ++ take 8 (drop 40 block)) (
-          take-add 32 8 block ∙ ap (λ (l : List ℕ). l ++ take 8 (drop 32 block)) (
-            take-add 24 8 block ∙ ap (λ (l : List ℕ). l ++ take 8 (drop 24 block)) (take-add 8 16 block)
-          )
-        )
-      )
+    take-add 48 8 block ∙ ap (λ (l : List ℕ). l ++ take 8 (drop 48 block)) (
+    take-add 40 8 block ∙ ap (λ (l : List ℕ). l ++ take 8 (drop 40 block)) (
+    take-add 32 8 block ∙ ap (λ (l : List ℕ). l ++ take 8 (drop 32 block)) (
+    take-add 24 8 block ∙ ap (λ (l : List ℕ). l ++ take 8 (drop 24 block)) (take-add 8 16 block)
+    )
+    )
+    )
     )
     ∙ cc (magic, g, e, s, q, z)
 
@@ -44,9 +44,9 @@ head_bytes_magic h = refl
 module _ (block : List ℕ) (size : ℕ) (long : 64 ≤ length block) (small : AreBytes block) where
   no_magic : stands_at block 0 ring_magic ≡ false → bytes_eq (take 64 block) (head_bytes (told_head block)) ≡ false
   no_magic h = elim (cases_Bool (bytes_eq (take 64 block) (head_bytes (told_head block)))) [
-    inl t ↦ absurd (true≢false (
+    | inl t ↦ absurd (true≢false (
         sym (stands_from block 0 8 ring_magic refl (sym (take-take 8 64 block (omega arith)) ∙ ap (take 8) ((bytes_eq-Decides _ _).0 t) ∙ head_bytes_magic (told_head block))) ∙ h
-      ))
+        ))
     | inr f ↦ f
   ]
 

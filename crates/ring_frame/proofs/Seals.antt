@@ -144,11 +144,11 @@ head_is fsid place bytes small w =
     let seq : take 8 (drop 24 bytes) ≡ big_bytes 8 (told bytes).seq = sym (bytes_back_at 24 bytes (omega (arith, w.long)) small) in
     let epoch : take 8 (drop 32 bytes) ≡ big_bytes 8 (told bytes).epoch = sym (bytes_back_at 32 bytes (omega (arith, w.long)) small) in
     take-add 40 4 bytes ∙ ap (λ (l : List ℕ). l ++ take 4 (drop 40 bytes)) (
-      take-add 32 8 bytes ∙ ap (λ (l : List ℕ). l ++ take 8 (drop 32 bytes)) (
-        take-add 24 8 bytes ∙ ap (λ (l : List ℕ). l ++ take 8 (drop 24 bytes)) (
-          take-add 16 8 bytes ∙ ap (λ (l : List ℕ). l ++ take 8 (drop 16 bytes)) (take-add 8 8 bytes)
-        )
-      )
+    take-add 32 8 bytes ∙ ap (λ (l : List ℕ). l ++ take 8 (drop 32 bytes)) (
+    take-add 24 8 bytes ∙ ap (λ (l : List ℕ). l ++ take 8 (drop 24 bytes)) (
+    take-add 16 8 bytes ∙ ap (λ (l : List ℕ). l ++ take 8 (drop 16 bytes)) (take-add 8 8 bytes)
+    )
+    )
     )
     ∙ cc (w.magic, w.ring, w.place_is, seq, epoch, len)
 

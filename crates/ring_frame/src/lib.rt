@@ -12,6 +12,12 @@ mod reading;
 mod spelling;
 
 pub use head::{RingHead, read_head, write_head};
-pub use laws::{entry_begins_with_magic, entry_fills_its_blocks, entry_is_read_back, entry_stands_alone, head_is_read_back};
+pub use laws::{
+    entry_begins_with_magic, entry_fills_its_blocks, entry_is_read_back, entry_stands_alone,
+    head_is_read_back,
+};
 pub use reading::{EntryHead, FrameFault, Framed, read_entry};
 pub use spelling::{need, seal};
+
+#[cfg(test)]
+mod tests;

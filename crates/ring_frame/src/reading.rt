@@ -108,7 +108,11 @@ fn first_fault(bytes: &[u8], fsid: &[u8; 16], place: u64) -> Option<FrameFault>
 /// Reads the entry that the bytes begin with, which are to stand at `place` of the device.
 ///
 /// Zeros between payload and end aren't read.
-pub fn read_entry<'a>(bytes: &'a [u8], fsid: &[u8; 16], place: u64) -> Result<Framed<'a>, FrameFault>
+pub fn read_entry<'a>(
+    bytes: &'a [u8],
+    fsid: &[u8; 16],
+    place: u64,
+) -> Result<Framed<'a>, FrameFault>
     ensures sealed { IfOk result (λ f. entry fsid.now place bytes.now ≡ Some (framed f)) }
     ensures size { IfOk result (λ f. f.size ≡ need_of (length f.payload.now)) }
     ensures unsealed { OnErr result (entry fsid.now place bytes.now ≡ None) }
