@@ -1,0 +1,140 @@
+ghost use Rattle.std.specs.Prelude.{◌<◌, ◌^◌};
+ghost use Rattle.dev_edge.specs.Replay.{IsTied};
+
+use crate::bytes::put_at;
+use dev_api::{DevError, DevFailed, Device};
+use fault_count::Schedule;
+use std::alloc::{AllocError, Global};
+
+/// A write that was asked.
+#[derive(Debug, Drop)]
+pub struct Asked {
+    at: u64,
+    bytes: Vec<u8>,
+    /// It was done, and not refused.
+    done: bool,
+    /// A sync was done since the write before it.
+    synced: bool,
+}
+
+/// A device in memory, which fails where it is told to and tells what a crash may leave.
+#[derive(Debug, Drop)]
+pub struct MemoryDevice {
+    alloc: Global,
+    size: u64,
+    /// As it read at first.
+    origin: Vec<u8>,
+    /// As it reads.
+    bytes: Vec<u8>,
+    /// All writes so far.
+    asked: Vec<Asked>,
+    /// How many of them came before the last sync.
+    since: usize,
+    /// A sync was done since the last write.
+    synced: bool,
+    plan: Schedule,
+    ghost few: { plan.faults < 2 ^ 64 },
+    ghost tied: { IsTied origin.items bytes.items size asked.items since synced },
+}
+
+impl MemoryDevice {
+    ghost use Rattle.std.specs.Prelude.{◌≡◌, [], ◌∷◌, length, replicate, IfOk};
+    ghost use Rattle.dev_api.specs.Disk.{settled};
+    ghost use Rattle.dev_edge.specs.Told.{disk_of, past_of, size_of, plan_of};
+
+    /// A device of zero bytes. Its calls that may change it are numbered from 1, reads too, and those in `fail` fail.
+    pub fn new(alloc: Global, size: u64, fail: Vec<u64>) -> Result<Self, AllocError>
+        ensures content { IfOk result (λ m. disk_of m ≡ settled (replicate size 0)) }
+        ensures past { IfOk result (λ m. past_of m ≡ disk_of m ∷ []) }
+        ensures size { IfOk result (λ m. size_of m ≡ size) }
+        ensures plan { IfOk result (λ m. plan_of m ≡ record { fail = fail.items; calls = 0; faults = 0 }) }
+    {
+        let origin = vec![in alloc; 0u8; size as usize]?;
+        Self::holding(alloc, origin, fail)
+    }
+
+    // A device that holds these bytes.
+    fn holding(alloc: Global, origin: Vec<u8>, fail: Vec<u64>) -> Result<Self, AllocError>
+        ensures content { IfOk result (λ m. disk_of m ≡ settled origin.items) }
+        ensures past { IfOk result (λ m. past_of m ≡ disk_of m ∷ []) }
+        ensures size { IfOk result (λ m. size_of m ≡ length origin.items) }
+        ensures plan { IfOk result (λ m. plan_of m ≡ record { fail = fail.items; calls = 0; faults = 0 }) }
+    {
+        let bytes = Vec::from_slice(alloc, &origin)?;
+        Ok(MemoryDevice {
+            alloc,
+            size: bytes.len() as u64,
+            origin,
+            bytes,
+            asked: Vec::new(alloc),
+            since: 0,
+            synced: false,
+            plan: Schedule::new(fail),
+        })
+    }
+}
+
+impl Device for MemoryDevice {
+    ghost use Rattle.std.specs.Prelude.{true};
+    ghost use Rattle.dev_edge.specs.Told.{disk_of, past_of};
+
+    ghost tells = { true };
+
+    ghost disk = { disk_of };
+
+    ghost past = { past_of };
+
+    ghost faults = { λ m. m.plan.faults };
+
+    ghost extent = { λ m. m.size };
+
+    fn size(&self) -> u64 {
+        self.size
+    }
+
+    fn read_at(&mut self, at: u64, into: &mut [u8]) -> Result<(), DevFailed> {
+        if self.plan.next() {
+            return Err(DevFailed);
+        }
+        let from = at as usize;
+        into.copy_from_slice(&self.bytes[from..from + into.len()]);
+        Ok(())
+    }
+
+    fn write_at(&mut self, at: u64, bytes: &[u8]) -> Result<(), DevError> {
+        let refused = self.plan.next();
+        let Ok(copy) = bytes.to_vec(self.alloc) else {
+            return Err(DevError::Memory);
+        };
+        let asked = Asked {
+            at,
+            bytes: copy,
+            done: !refused,
+            synced: self.synced,
+        };
+        if self.asked.push(asked).is_err() {
+            return Err(DevError::Memory);
+        }
+        self.synced = false;
+        if refused {
+            return Err(DevError::Refused);
+        }
+        put_at(&mut self.bytes, at as usize, bytes);
+        Ok(())
+    }
+
+    fn sync(&mut self) -> Result<(), DevFailed> {
+        if self.plan.next() {
+            return Err(DevFailed);
+        }
+        self.since = self.asked.len();
+        self.synced = true;
+        Ok(())
+    }
+
+    ghost has_size = { λ m told. m.tied.sized };
+
+    ghost use Rattle.dev_edge.specs.Tied.{image_tied};
+
+    ghost reads_image = { λ m told. image_tied m.origin.items m.bytes.items m.size m.asked.items m.since m.synced m.tied };
+}
