@@ -1,9 +1,9 @@
 -- How the content of a device in memory goes on from call to call.
-use Rattle.std.proofs.Common.{◌≡◌, ◌⊎◌, inl, inr, ℕ, zero, suc, ◌+◌, ◌<◌, ◌≤◌, Bool, true, false, cond, List, [], ◌∷◌, ◌++◌, length, take, drop, get_or, refl, sym, ◌∙◌, ap, subst, arith, length-append}
+use Rattle.std.proofs.Common.{◌≡◌, ◌⊎◌, inl, inr, ℕ, zero, suc, ◌+◌, ◌<◌, ◌≤◌, Bool, true, false, cond, List, [], ◌∷◌, ◌++◌, length, take, drop, get_or, refl, sym, ◌∙◌, ap, subst, arith, length-append, length-take, length-drop}
 use Rattle.std.specs.Prelude.{All, Vec, not}
 use Rattle.std.specs.declared.alloc.Global.{Global}
 use Rattle.std.proofs.lemmas.Bool.{cond-true, cond-false}
-use Rattle.std.proofs.lemmas.List.{take_all, drop_all, take-append-le, drop-append-le}
+use Rattle.std.proofs.lemmas.List.{take_all, drop_all, take-append-le, drop-append-le, take_more, get_or-take, get_or-drop}
 use Rattle.std.proofs.lemmas.List.Elements.{All-append}
 use Rattle.dev_api.specs.Disk.{Disk, IsImage, HasSize, Outside, put, Goes, wrote, wrote_in_part, settled, reading}
 use Rattle.dev_api.specs.Put.{length-put, put_other}
@@ -107,6 +107,7 @@ tied_write origin bytes now size ws next since w t e fits is =
     fine_either size d w.at w.bytes.items w.done fits (record { sized = t.sized; image = subst (IsImage d) (sym t.reads) t.image }) in
     let reads : (after_write d w).reads ≡ now = reads_either d w.at w.bytes.items w.done ∙ ap (λ (l : List ℕ). cond w.done (put l w.at w.bytes.items) l) t.reads ∙ sym is in
     record {
+      begun = t.begun;
       reads = ap (λ (x : Disk). x.reads) step ∙ reads;
       sized = subst (HasSize size) (sym step) fine.sized;
       image = subst (λ (x : Disk). IsImage x now) (sym step) (subst (IsImage (after_write d w)) reads fine.image);
@@ -129,6 +130,7 @@ tied_sync origin bytes size ws since synced t =
     let reads : all.reads ≡ bytes = sym (reads_synced synced all) ∙ t.reads in
     let long : length all.reads ≡ size = ap length (sym (reads_synced synced all)) ∙ t.sized.reads in
     record {
+      begun = t.begun;
       reads = reads;
       sized = record { stable = long; asked = long; reads = long };
       image = record { size = ap length (sym reads); same = λ i lt out. ap (λ (l : List ℕ). get_or l i 0) (sym reads) };
@@ -142,6 +144,7 @@ pub tied_first : (origin bytes : List ℕ) (size : ℕ) (ws : List Asked) → by
 unfolding after_writes spans
 tied_first origin bytes size ws e l k =
     subst (λ (b : List ℕ). IsTied origin b size ws 0 false) (sym e) (subst (λ (x : List Asked). IsTied origin origin size x 0 false) (sym k) (record {
+      begun = l;
       reads = refl;
       sized = record { stable = l; asked = l; reads = l };
       image = record { size = refl; same = λ i lt out. refl };
@@ -195,3 +198,39 @@ content_first origin ws e = ap (after_writes (settled origin)) e
 pub history_first : (origin : List ℕ) (ws : List Asked) → ws ≡ [] → history origin ws false ≡ content origin ws false ∷ []
 unfolding after_writes contents
 history_first origin ws e = subst (λ (l : List Asked). history origin l false ≡ content origin l false ∷ []) (sym e) refl
+
+-- ---- what a crash may leave
+
+outside-append : (xs ys : List (ℕ × ℕ)) (i : ℕ) → Outside (xs ++ ys) i → Outside xs i × Outside ys i
+outside-append [] ys i h = (tt, h)
+outside-append (x ∷ xs) ys i h = let r = outside-append xs ys i h.1 in ((h.0, r.0), r.1)
+
+-- a place outside of all writes is outside of each
+pub outside_at : (ws : List Asked) (k i : ℕ) (d : Asked) → k < length ws → Outside (spans ws) i
+    → (i < (get_or ws k d).at) ⊎ ((get_or ws k d).at + length (get_or ws k d).bytes.items ≤ i)
+unfolding spans
+outside_at [] k i d lt out = absurd (omega (arith, lt))
+outside_at (w ∷ ws) zero i d lt out = ((outside-append (spans ws) ((w.at, length w.bytes.items) ∷ []) i out).1).0
+outside_at (w ∷ ws) (suc k) i d lt out = outside_at ws k i d (omega (arith, lt)) (outside-append (spans ws) ((w.at, length w.bytes.items) ∷ []) i out).0
+
+-- one write more is replayed
+pub replayed-more : (origin now next : List ℕ) (ws : List Asked) (k : ℕ) (w : Asked) → k < length ws → w ≡ get_or ws k w → now ≡ (after_writes (settled origin) (take k ws)).reads
+    → next ≡ cond w.done (put now w.at w.bytes.items) now → next ≡ (after_writes (settled origin) (take (k + 1) ws)).reads
+replayed-more origin now next ws k w lt e is step =
+    let d : Disk = after_writes (settled origin) (take k ws) in
+    let d2 : Disk = after_sync w.synced d in
+    let more : after_writes (settled origin) (take (k + 1) ws) ≡ after_write d2 w =
+    ap (after_writes (settled origin)) (take_more ws k w lt ∙ ap (λ (x : Asked). take k ws ++ x ∷ []) (sym e)) ∙ after_writes-more (settled origin) (take k ws) w in
+    let same : now ≡ d2.reads = is ∙ sym (reads_synced w.synced d) in
+    step ∙ ap (λ (l : List ℕ). cond w.done (put l w.at w.bytes.items) l) same ∙ sym (reads_either d2 w.at w.bytes.items w.done) ∙ ap (λ (x : Disk). x.reads) (sym more)
+
+pub outside_of : (ws : List Asked) (k i : ℕ) (w : Asked) → k < length ws → w ≡ get_or ws k w → Outside (spans ws) i → (i < w.at) ⊎ (w.at + length w.bytes.items ≤ i)
+outside_of ws k i w lt e out =
+    subst (λ (a : Asked). (i < a.at) ⊎ (a.at + length a.bytes.items ≤ i)) (sym e) (outside_at ws k i w lt out)
+
+-- the writes before a moment lie within the device
+pub fit_before : (size n since : ℕ) (ws xs : List Asked) → xs ≡ ws → n ≡ size → All (λ (a : Asked). a.at + length a.bytes.items ≤ size) ws
+    → All (λ (a : Asked). a.at + length a.bytes.items ≤ n) (take since xs)
+fit_before size n since ws xs e l fit k d lt =
+    let same : get_or (take since xs) k d ≡ get_or ws k d = get_or-take since xs k d (omega (arith, length-take since xs)) ∙ ap (λ (x : List Asked). get_or x k d) e in
+    subst (λ (a : Asked). a.at + length a.bytes.items ≤ n) (sym same) (subst (λ (m : ℕ). (get_or ws k d).at + length (get_or ws k d).bytes.items ≤ m) (sym l) (fit k d (omega (arith, ap length e, length-take since xs))))

@@ -1,5 +1,6 @@
 -- What a device in memory tells.
-use Rattle.std.specs.Prelude.{ℕ, List}
+use Rattle.std.specs.Prelude.{◌≡◌, ℕ, List, Contains, Bool, if◌then◌else◌}
+use Rattle.fault_count.specs.Counted.{one_more}
 use Rattle.fault_count.specs.Plan.{Plan}
 use Rattle.dev_api.specs.Disk.{Disk}
 use Rattle.dev_edge.specs.declared.memory.MemoryDevice.{MemoryDevice}
@@ -19,3 +20,15 @@ size_of m = m.size
 -- its calls so far, and those that are to fail
 abbrev pub plan_of : MemoryDevice → Plan
 plan_of m = m.plan
+
+-- the next call is one that fails
+abbrev pub Fails : Plan → Type 0
+Fails plan = Contains plan.fail (one_more plan.calls)
+
+-- one call was counted, and a fault where it failed
+abbrev pub next_plan : Plan → Bool → Plan
+next_plan plan failed = record {
+  fail = plan.fail;
+  calls = one_more plan.calls;
+  faults = if failed then one_more plan.faults else plan.faults;
+}

@@ -7,6 +7,8 @@
 #![tactic(auto)]
 
 mod bytes;
+mod crash;
+mod draws;
 mod memory;
 
 pub use memory::MemoryDevice;

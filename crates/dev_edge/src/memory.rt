@@ -2,6 +2,7 @@ ghost use Rattle.std.specs.Prelude.{◌<◌, ◌^◌};
 ghost use Rattle.dev_edge.specs.Replay.{IsTied};
 
 use crate::bytes::put_at;
+use crate::crash::{mix, replay};
 use dev_api::{DevError, DevFailed, Device};
 use fault_count::Schedule;
 use std::alloc::{AllocError, Global};
@@ -9,12 +10,12 @@ use std::alloc::{AllocError, Global};
 /// A write that was asked.
 #[derive(Debug, Drop)]
 pub struct Asked {
-    at: u64,
-    bytes: Vec<u8>,
+    pub at: u64,
+    pub bytes: Vec<u8>,
     /// It was done, and not refused.
-    done: bool,
+    pub done: bool,
     /// A sync was done since the write before it.
-    synced: bool,
+    pub synced: bool,
 }
 
 /// A device in memory, which fails where it is told to and tells what a crash may leave.
@@ -39,7 +40,7 @@ pub struct MemoryDevice {
 
 impl MemoryDevice {
     ghost use Rattle.std.specs.Prelude.{◌≡◌, [], ◌∷◌, length, replicate, IfOk};
-    ghost use Rattle.dev_api.specs.Disk.{settled};
+    ghost use Rattle.dev_api.specs.Disk.{IsImage, settled};
     ghost use Rattle.dev_edge.specs.Told.{disk_of, past_of, size_of, plan_of};
 
     /// A device of zero bytes. Its calls that may change it are numbered from 1, reads too, and those in `fail` fail.
@@ -72,11 +73,51 @@ impl MemoryDevice {
             plan: Schedule::new(fail),
         })
     }
+
+    /// One image that a crash may leave now, as a device of its own.
+    ///
+    /// Choice 0 is the device as it reads, choice 1 the oldest values. Any other one draws each byte that was written
+    /// since the last sync, as old, as written or as something else, from a generator that starts at the choice.
+    pub fn leave(&self, choice: u64, fail: Vec<u64>) -> Result<Self, AllocError>
+        ensures image { IfOk result (λ m. IsImage (disk_of self.now) (disk_of m).reads) }
+        ensures settled { IfOk result (λ m. disk_of m ≡ settled (disk_of m).reads) }
+        ensures as_it_reads { choice ≡ 0 → IfOk result (λ m. (disk_of m).reads ≡ (disk_of self.now).reads) }
+        ensures oldest { choice ≡ 1 → IfOk result (λ m. (disk_of m).reads ≡ (disk_of self.now).stable) }
+        ensures past { IfOk result (λ m. past_of m ≡ disk_of m ∷ []) }
+        ensures size { IfOk result (λ m. size_of m ≡ size_of self.now) }
+        ensures plan { IfOk result (λ m. plan_of m ≡ record { fail = fail.items; calls = 0; faults = 0 }) }
+    {
+        let image = match choice {
+            0 => Vec::from_slice(self.alloc, &self.bytes)?,
+            1 => self.oldest()?,
+            _ => self.mixed(choice)?,
+        };
+        Self::holding(self.alloc, image, fail)
+    }
+
+    // What the last sync left.
+    fn oldest(&self) -> Result<Vec<u8>, AllocError>
+        ensures { IfOk result (λ v. v.items ≡ (disk_of self.now).stable) }
+    {
+        let mut image = Vec::from_slice(self.alloc, &self.origin)?;
+        replay(&mut image, &self.asked[..self.since]);
+        Ok(image)
+    }
+
+    // The same, with what was written since drawn byte by byte.
+    fn mixed(&self, seed: u64) -> Result<Vec<u8>, AllocError>
+        ensures { IfOk result (λ v. IsImage (disk_of self.now) v.items) }
+    {
+        let mut image = self.oldest()?;
+        mix(&mut image, &self.asked[self.since..], seed);
+        Ok(image)
+    }
 }
 
 impl Device for MemoryDevice {
-    ghost use Rattle.std.specs.Prelude.{true};
-    ghost use Rattle.dev_edge.specs.Told.{disk_of, past_of};
+    ghost use Rattle.std.specs.Prelude.{◌≡◌, ◌+◌, ◌≤◌, ◌↔◌, true, length, take, drop, OnOk, OnErr, IsErr, is_err};
+    ghost use Rattle.fault_count.specs.Counted.{Counted};
+    ghost use Rattle.dev_edge.specs.Told.{disk_of, past_of, size_of, plan_of, Fails, next_plan};
 
     ghost tells = { true };
 
@@ -92,7 +133,17 @@ impl Device for MemoryDevice {
         self.size
     }
 
-    fn read_at(&mut self, at: u64, into: &mut [u8]) -> Result<(), DevFailed> {
+    fn read_at(&mut self, at: u64, into: &mut [u8]) -> Result<(), DevFailed>
+        requires within { at + length into.old ≤ size_of self.old }
+        ensures bytes { OnOk result (into.new ≡ take (length into.old) (drop at (disk_of self.old).reads)) }
+        ensures disk { disk_of self.new ≡ disk_of self.old }
+        ensures past { past_of self.new ≡ past_of self.old }
+        ensures extent { size_of self.new ≡ size_of self.old }
+        ensures scheduled { IsErr result ↔ Fails (plan_of self.old) }
+        ensures plan { plan_of self.new ≡ next_plan (plan_of self.old) (is_err result) }
+        ensures faults { (plan_of self.old).faults ≤ (plan_of self.new).faults }
+        ensures cause { OnErr result (Counted (plan_of self.old).faults (plan_of self.new).faults) }
+    {
         if self.plan.next() {
             return Err(DevFailed);
         }
