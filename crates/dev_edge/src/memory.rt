@@ -115,8 +115,10 @@ impl MemoryDevice {
 }
 
 impl Device for MemoryDevice {
-    ghost use Rattle.std.specs.Prelude.{◌≡◌, ◌+◌, ◌≤◌, ◌↔◌, true, length, take, drop, OnOk, OnErr, IsErr, is_err};
-    ghost use Rattle.fault_count.specs.Counted.{Counted};
+    ghost use Rattle.std.specs.Prelude.{◌≡◌, ◌+◌, ◌≤◌, ◌↔◌, ℕ, List, true, length, take, drop, OnOk, OnErr, IsErr, IsErrOf, is_err};
+    ghost use Rattle.fault_count.specs.Counted.{Counted, one_more};
+    ghost use Rattle.dev_api.specs.declared.device.DevError.TheVariants.{Memory, Refused};
+    ghost use Rattle.dev_api.specs.Disk.{Goes, wrote, wrote_in_part, settled};
     ghost use Rattle.dev_edge.specs.Told.{disk_of, past_of, size_of, plan_of, Fails, next_plan};
 
     ghost tells = { true };
@@ -152,7 +154,19 @@ impl Device for MemoryDevice {
         Ok(())
     }
 
-    fn write_at(&mut self, at: u64, bytes: &[u8]) -> Result<(), DevError> {
+    fn write_at(&mut self, at: u64, bytes: &[u8]) -> Result<(), DevError>
+        requires within { at + length bytes.now ≤ size_of self.old }
+        ensures done { OnOk result (Goes (disk_of self.old) (disk_of self.new) (past_of self.old) (past_of self.new) (wrote (disk_of self.old) at bytes.now)) }
+        ensures refused { IsErrOf result DevError.Refused → (r : List ℕ) × Goes (disk_of self.old) (disk_of self.new) (past_of self.old) (past_of self.new) (wrote_in_part (disk_of self.old) at bytes.now r) }
+        ensures memory { IsErrOf result DevError.Memory → (disk_of self.new ≡ disk_of self.old) × (past_of self.new ≡ past_of self.old) }
+        ensures extent { size_of self.new ≡ size_of self.old }
+        ensures scheduled { Fails (plan_of self.old) → IsErr result }
+        ensures only_scheduled { IsErrOf result DevError.Refused → Fails (plan_of self.old) }
+        ensures number { (plan_of self.new).calls ≡ one_more (plan_of self.old).calls }
+        ensures same_plan { (plan_of self.new).fail ≡ (plan_of self.old).fail }
+        ensures faults { (plan_of self.old).faults ≤ (plan_of self.new).faults }
+        ensures cause { IsErrOf result DevError.Refused → Counted (plan_of self.old).faults (plan_of self.new).faults }
+    {
         let refused = self.plan.next();
         let Ok(copy) = bytes.to_vec(self.alloc) else {
             return Err(DevError::Memory);
@@ -174,7 +188,15 @@ impl Device for MemoryDevice {
         Ok(())
     }
 
-    fn sync(&mut self) -> Result<(), DevFailed> {
+    fn sync(&mut self) -> Result<(), DevFailed>
+        ensures done { OnOk result (Goes (disk_of self.old) (disk_of self.new) (past_of self.old) (past_of self.new) (settled (disk_of self.old).reads)) }
+        ensures refused { OnErr result ((disk_of self.new ≡ disk_of self.old) × (past_of self.new ≡ past_of self.old)) }
+        ensures extent { size_of self.new ≡ size_of self.old }
+        ensures scheduled { IsErr result ↔ Fails (plan_of self.old) }
+        ensures plan { plan_of self.new ≡ next_plan (plan_of self.old) (is_err result) }
+        ensures faults { (plan_of self.old).faults ≤ (plan_of self.new).faults }
+        ensures cause { OnErr result (Counted (plan_of self.old).faults (plan_of self.new).faults) }
+    {
         if self.plan.next() {
             return Err(DevFailed);
         }

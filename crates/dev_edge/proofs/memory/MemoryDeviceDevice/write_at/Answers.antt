@@ -16,7 +16,7 @@ invariant_of-self-then-refused-clause-tied c =
     m.bytes.items m.size m.since m.tied c.requires.within c.if-refused.true
 
 pub returns-then-refused-clause-refused : goal.returns-then-refused-clause-refused
-returns-then-refused-clause-refused c = λ told err.
+returns-then-refused-clause-refused c = λ err.
     let m = c.args.self.now in
     let same : c.in-Ok.copy.items ≡ c.args.bytes.now = search rules in
     let w : Asked = record { at = c.args.at; bytes = c.in-Ok.copy; done = not c.next-refused.result; synced = m.synced } in
@@ -38,7 +38,7 @@ invariant_of-self-2-clause-tied c =
     m.bytes.items m.size m.since m.tied c.requires.within _ c.if-refused.false now
 
 pub returns-clause-done : goal.returns-clause-done
-returns-clause-done c = λ told.
+returns-clause-done c =
     let m = c.args.self.now in
     let same : c.in-Ok.copy.items ≡ c.args.bytes.now = search rules in
     let w : Asked = record { at = c.args.at; bytes = c.in-Ok.copy; done = not c.next-refused.result; synced = m.synced } in
