@@ -1,7 +1,7 @@
 //! Devices: one in memory, for tests and for what a crash leaves, and one on a file.
 //!
 //! The device in memory tells its content, and fails where it is told to. Since it tells all contents that it has had,
-//! it keeps every write that it was asked; reading costs the bytes read, writing the bytes written, and a sync nothing.
+//! it keeps every write that it was asked; a read costs the bytes read, a write the bytes written, and a sync nothing.
 //! The device on a file tells nothing of its content: what is proved of it is its safety, its size and its count of
 //! faults.
 #![tactic(auto)]
@@ -9,6 +9,10 @@
 mod bytes;
 mod crash;
 mod draws;
+mod fault;
 mod memory;
+mod real;
 
+pub use fault::EdgeFault;
 pub use memory::MemoryDevice;
+pub use real::RealDevice;
