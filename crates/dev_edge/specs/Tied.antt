@@ -177,8 +177,8 @@ module _ (origin : List ℕ) (ws next : List Asked) (at : ℕ) (copy : Vec ℕ G
   goes_refused t = (
     (content origin ws synced).reads,
     subst (Goes (content origin ws synced) (content origin next false) (history origin ws synced) (history origin next false))
-    (cond-false (not refused) _ _ (ap not t) ∙ ap (λ (l : List ℕ). wrote_in_part (content origin ws synced) at l (content origin ws synced).reads) same)
-    (goes_write origin ws next _ e),
+        (cond-false (not refused) _ _ (ap not t) ∙ ap (λ (l : List ℕ). wrote_in_part (content origin ws synced) at l (content origin ws synced).reads) same)
+        (goes_write origin ws next _ e),
   )
 
   module _ (bytes : List ℕ) (size since : ℕ) (t : IsTied origin bytes size ws since synced) (fits : at + length bs ≤ size) where

@@ -16,3 +16,6 @@ mod real;
 pub use fault::EdgeFault;
 pub use memory::MemoryDevice;
 pub use real::RealDevice;
+
+#[cfg(test)]
+mod tests;

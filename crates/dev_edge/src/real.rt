@@ -85,6 +85,21 @@ impl<R: Files + Drop> RealDevice<R> {
     }
 }
 
+impl<R: Files> RealDevice<R> {
+    // Counts a fault where the machine refused.
+    fn count(&mut self, done: io::Result<()>) -> Result<(), DevFailed>
+        ensures counts { self.new ≡ counted self.old (is_err result) }
+        ensures faults { self.old.faults ≤ self.new.faults }
+        ensures same { is_err result ≡ is_err done }
+    {
+        if done.is_err() {
+            self.faults.rise();
+            return Err(DevFailed);
+        }
+        Ok(())
+    }
+}
+
 impl<R: Files> Device for RealDevice<R> {
     ghost tells = { false };
 
@@ -104,39 +119,24 @@ impl<R: Files> Device for RealDevice<R> {
         ensures counts { self.new ≡ counted self.old (is_err result) }
         ensures faults { self.old.faults ≤ self.new.faults }
     {
-        match read_exact_at(&mut self.file, at, into) {
-            Ok(()) => Ok(()),
-            Err(_) => {
-                self.faults.rise();
-                Err(DevFailed)
-            }
-        }
+        let done = read_exact_at(&mut self.file, at, into);
+        self.count(done)
     }
 
     fn write_at(&mut self, at: u64, bytes: &[u8]) -> Result<(), DevError>
         ensures counts { self.new ≡ counted self.old (is_err result) }
         ensures faults { self.old.faults ≤ self.new.faults }
     {
-        match write_all_at(&mut self.file, at, bytes) {
-            Ok(()) => Ok(()),
-            Err(_) => {
-                self.faults.rise();
-                Err(DevError::Refused)
-            }
-        }
+        let done = write_all_at(&mut self.file, at, bytes);
+        self.count(done).map_err(|_| DevError::Refused)
     }
 
     fn sync(&mut self) -> Result<(), DevFailed>
         ensures counts { self.new ≡ counted self.old (is_err result) }
         ensures faults { self.old.faults ≤ self.new.faults }
     {
-        match self.file.sync_data() {
-            Ok(()) => Ok(()),
-            Err(_) => {
-                self.faults.rise();
-                Err(DevFailed)
-            }
-        }
+        let done = self.file.sync_data();
+        self.count(done)
     }
 
     ghost use Rattle.std.proofs.lemmas.Bool.{false≢true};

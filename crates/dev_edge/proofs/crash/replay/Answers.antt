@@ -15,6 +15,6 @@ loop-write-preserved c =
     let w = c.write-item.result in
     replayed-more c.args.image.now c.loop-write.image c.if-write.image c.args.asked.now c.loop-write.write-index w c.loop-write-test.true c.write-item.is c.loop-write.invariant
     (elim c.if-write.branch [
-      then-write b ↦ b.image-is ∙ b.put_at.ensures ∙ ap (put c.loop-write.image w.at) b.deref.ensures.value ∙ sym (cond-true w.done _ _ b.if-write.true)
+      | then-write b ↦ b.image-is ∙ b.put_at.ensures ∙ ap (put c.loop-write.image w.at) b.deref.ensures.value ∙ sym (cond-true w.done _ _ b.if-write.true)
       | else-write b ↦ b.image-is ∙ sym (cond-false w.done _ _ b.if-write.false)
     ])
