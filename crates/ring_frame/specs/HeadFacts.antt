@@ -1,14 +1,13 @@
 -- A header that is spelled is read back.
-use Rattle.std.proofs.Common.{◌≡◌, ℕ, ◌+◌, ◌<◌, ◌≤◌, ◌^◌, Bool, true, ◌&&◌, leb, ltb, ◌==◌, ◌%◌, List, [], ◌++◌, length, take, drop, replicate, refl, sym, ap, ◌∙◌, arith, length-append, append_assoc}
-use Rattle.std.specs.Prelude.{Option, Some}
-use Rattle.std.specs.Str.{bytes_eq}
+use Rattle.std.proofs.Common.{◌≡◌, ℕ, ◌<◌, ◌≤◌, ◌^◌, true, List, [], ◌++◌, length, take, drop, replicate, refl, sym, ap, ◌∙◌, arith, length-append, append_assoc}
+use Rattle.std.specs.Prelude.{Some}
 use Rattle.std.proofs.lemmas.List.{take_at, drop_at, length-replicate}
 use Rattle.std.proofs.lemmas.Bool.{cond-true, and_from, and_parts, leb-true, ltb-true, eqb-true}
 use Rattle.std.proofs.lemmas.Slice.Eq.{bytes_eq-Decides}
 use Rattle.byteorder.specs.Endian.{big_bytes, big_number}
 use Rattle.byteorder.specs.Numbers.{big_number-reads_back, length-bytes_high_first}
 use Rattle.sha1.specs.Sha1.{sha1}
-use Rattle.ring_frame.specs.Heads.{Head, ring_magic, head_bytes, head_block, HeadFits, told_head, size_fits, head_fits, head_in}
+use Rattle.ring_frame.specs.Heads.{Head, ring_magic, head_bytes, head_block, HeadFits, told_head, head_fits, head_in}
 use Rattle.ring_frame.specs.Facts.{length-sha1}
 
 -- the same fields make the same header

@@ -1,6 +1,6 @@
 -- Bytes put at a place of a list.
-use Rattle.std.proofs.Common.{◌≡◌, ℕ, ◌+◌, ◌-◌, ◌≤◌, List, [], ◌∷◌, ◌++◌, length, take, drop, replicate, refl, sym, ◌∙◌, ap, arith, length-append, length-take, length-drop, append_assoc}
-use Rattle.std.proofs.lemmas.List.{take_at, drop_at, take_all, drop_all, length-take-le, append-nil, take-append-le, length-replicate, take-replicate, drop-replicate, drop-drop, replicate-append-replicate}
+use Rattle.std.proofs.Common.{◌≡◌, ℕ, ◌+◌, ◌≤◌, List, [], ◌++◌, length, take, drop, refl, sym, ◌∙◌, ap, arith, length-append, length-take, length-drop, append_assoc}
+use Rattle.std.proofs.lemmas.List.{take_at, take_all}
 
 -- the list with these bytes at a place
 abbrev pub put : List ℕ → ℕ → List ℕ → List ℕ

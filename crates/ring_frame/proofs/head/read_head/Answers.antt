@@ -1,6 +1,5 @@
-use Rattle.std.proofs.Common.{rules, ◌≡◌, refl, sym, ap, ◌∙◌, take, arith}
+use Rattle.std.proofs.Common.{rules, sym, ap, ◌∙◌, arith}
 use Rattle.std.specs.Prelude.{Some}
-use Rattle.sha1.specs.Sha1.{sha1}
 use Rattle.ring_frame.specs.Frame.{stands_at}
 use Rattle.ring_frame.specs.Heads.{Head, head_fits}
 use Rattle.ring_frame.proofs.Headers.{read_no_magic, read_bad_digest, read_unfit, read_told}

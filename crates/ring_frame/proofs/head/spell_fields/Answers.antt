@@ -1,4 +1,4 @@
-use Rattle.std.proofs.Common.{◌≡◌, List, ℕ, length, replicate, refl, ap, ◌∙◌, arith}
+use Rattle.std.proofs.Common.{replicate, refl, ap, ◌∙◌, arith}
 use Rattle.byteorder.specs.Numbers.{length-bytes_high_first}
 use Rattle.byteorder.specs.Endian.{big_bytes}
 use Rattle.ring_frame.specs.Heads.{head_bytes, ring_magic}

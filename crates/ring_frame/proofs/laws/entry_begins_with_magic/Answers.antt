@@ -1,4 +1,3 @@
-use Rattle.std.proofs.Common.{arith}
 use Rattle.ring_frame.specs.Facts.{entry_magic_first}
 use Rattle.ring_frame.proofs.laws.entry_begins_with_magic.Goals as goal
 

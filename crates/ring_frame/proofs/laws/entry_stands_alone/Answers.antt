@@ -1,4 +1,3 @@
-use Rattle.std.proofs.Common.{arith}
 use Rattle.ring_frame.specs.Facts.{entry_same}
 use Rattle.ring_frame.proofs.laws.entry_stands_alone.Goals as goal
 

@@ -1,4 +1,3 @@
-use Rattle.std.proofs.Common.{arith}
 use Rattle.ring_frame.specs.HeadFacts.{head_read_back}
 use Rattle.ring_frame.proofs.laws.head_is_read_back.Goals as goal
 

@@ -1,4 +1,4 @@
-use Rattle.std.proofs.Common.{◌≡◌, sym, ap, ◌∙◌, take, drop, arith}
+use Rattle.std.proofs.Common.{sym, ap, ◌∙◌}
 use Rattle.ring_frame.specs.Frame.{stands_at}
 use Rattle.ring_frame.proofs.Seals.{fault_short, fault_magic, fault_ring, fault_place, fault_seal}
 use Rattle.ring_frame.proofs.reading.first_fault.Goals as goal

@@ -1,6 +1,6 @@
-use Rattle.std.proofs.Common.{rules, ◌≡◌, List, ℕ, ◌+◌, ◌-◌, ◌≤◌, refl, sym, ap, ◌∙◌, take, drop, arith}
+use Rattle.std.proofs.Common.{rules, ◌≡◌, List, ℕ, ◌+◌, ◌-◌, sym, ap, ◌∙◌, take, drop, arith}
 use Rattle.std.specs.Prelude.{Some}
-use Rattle.ring_frame.specs.Frame.{Entry, told, told_length}
+use Rattle.ring_frame.specs.Frame.{Entry, told_length}
 use Rattle.ring_frame.specs.Facts.{need-room, made_same}
 use Rattle.ring_frame.proofs.Seals.{unsealed, read_room, read_sealed}
 use Rattle.ring_frame.proofs.reading.read_entry.Goals as goal

@@ -2,7 +2,7 @@ use Rattle.std.proofs.Common.{◌≡◌, List, ℕ, ◌+◌, ◌-◌, ◌≤◌,
 use Rattle.std.proofs.lemmas.List.{length-replicate}
 use Rattle.ring_frame.specs.Frame.{need, front, spelled, Entry}
 use Rattle.ring_frame.specs.Facts.{length-front, need-room}
-use Rattle.ring_frame.specs.Put.{put, four_puts}
+use Rattle.ring_frame.specs.Put.{four_puts}
 use Rattle.ring_frame.proofs.spelling.seal.Goals as goal
 
 pub overflow_sub-foot : goal.overflow_sub-foot

@@ -1,4 +1,4 @@
-use Rattle.std.proofs.Common.{List, ℕ, take, length, replicate, refl, ap, ◌∙◌, length-take-le, arith}
+use Rattle.std.proofs.Common.{take, length, replicate, refl, ap, ◌∙◌, length-take-le, arith}
 use Rattle.byteorder.specs.Numbers.{length-bytes_high_first}
 use Rattle.byteorder.specs.Endian.{big_bytes}
 use Rattle.ring_frame.specs.Frame.{head, entry_magic}
