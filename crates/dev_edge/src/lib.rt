@@ -10,10 +10,12 @@ mod bytes;
 mod crash;
 mod draws;
 mod fault;
+mod laws;
 mod memory;
 mod real;
 
 pub use fault::EdgeFault;
+pub use laws::{told_in_memory, told_on_a_file};
 pub use memory::MemoryDevice;
 pub use real::RealDevice;
 

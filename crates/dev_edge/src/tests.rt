@@ -88,6 +88,7 @@ fn makes_a_missing_file(rt: HostRuntime) -> Result<(), Fail> {
     Ok(())
 }
 
+// The file's length counts when it is opened. A read that finds fewer bytes is refused.
 #[test]
 fn opens_a_file_of_its_length(rt: HostRuntime) -> Result<(), Fail> {
     fs::write(&rt, "there", "hello")?;
@@ -96,6 +97,8 @@ fn opens_a_file_of_its_length(rt: HostRuntime) -> Result<(), Fail> {
     assert_eq!(rt; device.size(), 5);
     assert_eq!(rt; device.read_at(1, &mut bytes), Ok(()));
     assert_eq!(rt; bytes, *b"ello");
+    fs::write(&rt, "there", "")?;
+    assert_eq!(rt; device.read_at(1, &mut bytes), Err(DevFailed));
     assert_eq!(rt;
         RealDevice::at(rt.clone()?, "no/folder").err(),
         Some(EdgeFault::Outside)
