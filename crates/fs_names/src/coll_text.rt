@@ -37,12 +37,27 @@ impl CollText {
     }
 }
 
+impl From<Vec<u8>> for CollText {
+    ghost from_gives = { λ bytes text. text ≡ bytes.items };
+
+    fn from(bytes: Vec<u8>) -> CollText {
+        CollText { bytes }
+    }
+}
+
+impl From<CollText> for Vec<u8> {
+    ghost from_gives = { λ text bytes. bytes.items ≡ text };
+
+    fn from(text: CollText) -> Vec<u8> {
+        text.bytes
+    }
+}
+
 /// The text of a collection.
 pub fn encode_coll(alloc: Global, coll: &Coll) -> Result<CollText, AllocError>
     ensures { IfOk result (λ text. text ≡ coll_text coll.now) }
 {
-    let text = coll_string(alloc, *coll)?;
-    CollText::new(alloc, text.as_bytes())
+    Ok(CollText::from(coll_string(alloc, *coll)?.into_bytes()))
 }
 
 #[tactic(auto, unfolding(crate::specs::Text::coll_text))]

@@ -23,11 +23,10 @@ fn sixteens(level: u8) -> u32
     }
 }
 
-/// The digit of a hash that the directories of a level go by.
+/// The digit of a hash that the directories of a level go by. Level 0 goes by the least significant one.
 pub fn digit(hash: u32, level: u8) -> u8
     requires { level < 8 }
-    ensures value { result ≡ digit_at hash level }
-    ensures range { result < 16 }
+    ensures { result ≡ digit_at hash level }
 {
     let shifted = hash / sixteens(level);
     (shifted % 16) as u8
@@ -68,7 +67,7 @@ fn order_digit(a: u32, b: u32, level: u8) -> Ordering
     digit(a, level).cmp(&digit(b, level))
 }
 
-/// The order of the digits, the least significant first.
+/// Compares the digits of two hashes, the least significant first.
 #[tactic(auto, using(crate::proofs::Parts::hash_parts))]
 pub fn order_hash(a: u32, b: u32) -> Ordering
     ensures { result ≡ slice_cmp nat_cmp (hash_digits a) (hash_digits b) }

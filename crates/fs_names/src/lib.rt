@@ -13,6 +13,7 @@ mod oid;
 mod oid_reading;
 mod oid_text;
 mod order;
+mod settings;
 mod split;
 
 pub use coll::Coll;
@@ -26,3 +27,7 @@ pub use number::{decimal, hexadecimal, number_law};
 pub use oid::{Oid, Snap};
 pub use oid_reading::decode_oid;
 pub use oid_text::{OidText, encode_oid};
+pub use settings::{Mode, Pos, Settings};
+
+#[cfg(test)]
+mod tests;

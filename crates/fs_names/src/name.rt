@@ -1,4 +1,4 @@
-ghost use Rattle.std.specs.Prelude.{◌≡◌, ◌≢◌, ◌+◌, ◌<◌, ◌^◌, not, length, position, IfOk, IfErr, OnOk};
+ghost use Rattle.std.specs.Prelude.{◌≡◌, ◌≢◌, ◌+◌, ◌<◌, ◌≤◌, ◌^◌, not, length, position, IfOk, IfErr, OnOk};
 ghost use Rattle.fs_names.specs.Names.{IsName, bad_at, is_plain, name_fault, escape_fault, length_fault};
 
 use crate::NameFault;
@@ -51,6 +51,7 @@ impl Name {
     pub fn bytes(&self) -> &[u8]
         ensures value { result.now ≡ self.now }
         ensures name { IsName self.now }
+        ensures short { length self.now ≤ 1024 }
     {
         &self.bytes
     }

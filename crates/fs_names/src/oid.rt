@@ -1,4 +1,5 @@
-ghost use Rattle.std.specs.Prelude.{◌≡◌, IfOk};
+ghost use Rattle.std.specs.Prelude.{◌≡◌, ◌<◌, ◌^◌, IfOk, IfSome};
+ghost use Rattle.fs_names.specs.Reading.{SnapFits};
 
 use crate::Name;
 use std::alloc::AllocError;
@@ -12,7 +13,7 @@ pub enum Snap {
 }
 
 /// The name of an object.
-#[derive(Drop)]
+#[derive(Debug, Drop)]
 pub struct Oid {
     pub name: Name,
     pub key: Name,
@@ -23,6 +24,20 @@ pub struct Oid {
 }
 
 impl Oid {
+    ghost use Rattle.fs_names.specs.Reading.{OidFits};
+
+    /// A value of the type can be spelled.
+    pub fn fits(&self)
+        ensures { OidFits self.now }
+    {
+        let _name = self.name.bytes();
+        let _key = self.key.bytes();
+        let _nspace = self.nspace.bytes();
+        let _hash = self.hash;
+        snap_fits(self.snap);
+        pool_fits(self.pool);
+    }
+
     pub fn copy(&self) -> Result<Oid, AllocError>
         ensures { IfOk result (λ oid. oid ≡ self.now) }
     {
@@ -36,3 +51,11 @@ impl Oid {
         })
     }
 }
+
+fn snap_fits(snap: Snap)
+    ensures { SnapFits snap }
+{}
+
+fn pool_fits(pool: Option<u64>)
+    ensures { IfSome pool (λ id. id < 2 ^ 64) }
+{}

@@ -37,6 +37,22 @@ impl OidText {
     }
 }
 
+impl From<Vec<u8>> for OidText {
+    ghost from_gives = { λ bytes text. text ≡ bytes.items };
+
+    fn from(bytes: Vec<u8>) -> OidText {
+        OidText { bytes }
+    }
+}
+
+impl From<OidText> for Vec<u8> {
+    ghost from_gives = { λ text bytes. bytes.items ≡ text };
+
+    fn from(text: OidText) -> Vec<u8> {
+        text.bytes
+    }
+}
+
 /// The text of an object's name.
 pub fn encode_oid(alloc: Global, oid: &Oid) -> Result<OidText, AllocError>
     ensures { IfOk result (λ text. text ≡ oid_text oid.now) }

@@ -1,0 +1,298 @@
+use crate::{
+    Coll, CollFault, CollText, Name, NameFault, Oid, OidText, Pos, Snap, decimal, decode_coll,
+    decode_oid, digit, encode_coll, encode_oid, hexadecimal, order_hash,
+};
+use std::alloc::Global;
+use std::cmp::Ordering;
+use std::test::Fail;
+
+#[test]
+fn names_are_plain_bytes_up_to_1024(rt: HostRuntime) -> Result<(), Fail> {
+    let longest = vec![in rt.alloc(); b'a'; 1024]?;
+    let name = Name::new(rt.alloc(), &longest)
+        .ok()
+        .ok_or("a name of 1,024 bytes")?;
+    assert_eq!(rt; name.copy()?.bytes(), longest.as_slice());
+    let longer = vec![in rt.alloc(); b'a'; 1025]?;
+    let cases: [(&[u8], NameFault); 8] = [
+        (&longer, NameFault::TooLong { field: 0 }),
+        (b".a", NameFault::BadEscape { at: 0 }),
+        (b"a_b", NameFault::BadEscape { at: 1 }),
+        (b"a.b/", NameFault::BadEscape { at: 3 }),
+        (b"\\", NameFault::BadEscape { at: 0 }),
+        (b"a b", NameFault::BadEscape { at: 1 }),
+        (b"ab\x7f", NameFault::BadEscape { at: 2 }),
+        (b"DIR_1", NameFault::BadEscape { at: 3 }),
+    ];
+    for (bytes, fault) in cases {
+        let refused = Name::new(rt.alloc(), bytes).err();
+        assert_eq!(rt; refused, Some(fault));
+    }
+    Ok(())
+}
+
+fn object(
+    alloc: Global,
+    name: &[u8],
+    key: &[u8],
+    nspace: &[u8],
+    snap: Snap,
+    hash: u32,
+    pool: Option<u64>,
+) -> Result<Oid, NameFault> {
+    Ok(Oid {
+        name: Name::new(alloc, name)?,
+        key: Name::new(alloc, key)?,
+        nspace: Name::new(alloc, nspace)?,
+        snap,
+        hash,
+        pool,
+    })
+}
+
+#[test]
+fn objects_have_these_texts(rt: HostRuntime) -> Result<(), Fail> {
+    let alloc = rt.alloc();
+    let cases: [(&str, Oid); 6] = [
+        (
+            "a__head_00000001__1",
+            object(alloc, b"a", b"", b"", Snap::Head, 1, Some(1))?,
+        ),
+        (
+            "o0__head_00000010__1",
+            object(alloc, b"o0", b"", b"", Snap::Head, 16, Some(1))?,
+        ),
+        (
+            "__head_00000010__2",
+            object(alloc, b"", b"", b"", Snap::Head, 16, Some(2))?,
+        ),
+        (
+            "rbd.1_k.1_snapdir_7C2A9D10_ns_ff",
+            object(
+                alloc,
+                b"rbd.1",
+                b"k.1",
+                b"ns",
+                Snap::Dir,
+                0x7C2A_9D10,
+                Some(255),
+            )?,
+        ),
+        (
+            "b__1a_0000A1B2__none",
+            object(alloc, b"b", b"", b"", Snap::Id(26), 0xA1B2, None)?,
+        ),
+        (
+            "c__0_FFFFFFFF__0",
+            object(alloc, b"c", b"", b"", Snap::Id(0), 0xFFFF_FFFF, Some(0))?,
+        ),
+    ];
+    for (text, oid) in &cases {
+        let written = encode_oid(alloc, oid)?;
+        assert_eq!(rt; written.slice(), text.as_bytes());
+        let read = decode_oid(alloc, text.as_bytes())?;
+        assert!(rt; read == *oid, "{text}");
+        assert!(rt; read.copy()? == *oid, "{text}");
+    }
+    Ok(())
+}
+
+#[test]
+fn texts_of_objects_are_refused_for_their_first_fault(rt: HostRuntime) -> Result<(), Fail> {
+    let cases: [(&str, NameFault); 21] = [
+        ("", NameFault::BadField { n: 6 }),
+        ("a__head", NameFault::BadField { n: 6 }),
+        ("a__head_00000001__1_", NameFault::BadField { n: 6 }),
+        ("a___head_00000001__1", NameFault::BadField { n: 6 }),
+        ("\\x5f__head_00000001__1", NameFault::BadEscape { at: 0 }),
+        (".a__head_00000001__1", NameFault::BadEscape { at: 0 }),
+        ("a_k/_head_00000001__1", NameFault::BadEscape { at: 3 }),
+        ("a_.k_head_00000001__1", NameFault::BadEscape { at: 2 }),
+        ("a_k_head_00000001_n s_1", NameFault::BadEscape { at: 19 }),
+        ("a b_k\\_head_00000001__1", NameFault::BadEscape { at: 1 }),
+        ("a__Head_0000001__1", NameFault::BadField { n: 2 }),
+        ("a___00000001__1", NameFault::BadField { n: 2 }),
+        ("a__01_00000001__1", NameFault::BadField { n: 2 }),
+        ("a__1F_00000001__1", NameFault::BadField { n: 2 }),
+        (
+            "a__10000000000000000_00000001__1",
+            NameFault::BadField { n: 2 },
+        ),
+        ("a__head_0000001__1", NameFault::BadField { n: 3 }),
+        ("a__head_000000001__1", NameFault::BadField { n: 3 }),
+        ("a__head_0000000a__1", NameFault::BadField { n: 3 }),
+        ("a__head_+0000001__", NameFault::BadField { n: 3 }),
+        ("a__head_0000000A__", NameFault::BadField { n: 5 }),
+        ("a__head_0000000A__+1", NameFault::BadField { n: 5 }),
+    ];
+    for (text, fault) in cases {
+        let refused = decode_oid(rt.alloc(), text.as_bytes()).err();
+        assert_eq!(rt; refused, Some(fault), "{text}");
+    }
+    Ok(())
+}
+
+/// A text with a field of this length: the name, the key or the namespace.
+fn long_text(alloc: Global, field: u8, len: usize) -> Result<Vec<u8>, Fail> {
+    let long = vec![in alloc; b'a'; len]?;
+    let mut text = Vec::new(alloc);
+    if field == 0 {
+        text.extend_from_slice(&long)?;
+    }
+    text.push(b'_')?;
+    if field == 1 {
+        text.extend_from_slice(&long)?;
+    }
+    text.extend_from_slice(b"_head_00000001_")?;
+    if field == 4 {
+        text.extend_from_slice(&long)?;
+    }
+    text.extend_from_slice(b"_1")?;
+    Ok(text)
+}
+
+#[test]
+fn fields_have_at_most_1024_bytes(rt: HostRuntime) -> Result<(), Fail> {
+    for field in [0, 1, 4] {
+        let longest = long_text(rt.alloc(), field, 1024)?;
+        assert!(rt; decode_oid(rt.alloc(), &longest).is_ok());
+        let longer = long_text(rt.alloc(), field, 1025)?;
+        let refused = decode_oid(rt.alloc(), &longer).err();
+        assert_eq!(rt; refused, Some(NameFault::TooLong { field }));
+    }
+    Ok(())
+}
+
+#[test]
+fn collections_have_these_texts(rt: HostRuntime) -> Result<(), Fail> {
+    let cases = [
+        ("meta", Coll::Meta),
+        (
+            "1.0_head",
+            Coll::Pg {
+                pool: 1,
+                seed: 0,
+                temp: false,
+            },
+        ),
+        (
+            "1.0_TEMP",
+            Coll::Pg {
+                pool: 1,
+                seed: 0,
+                temp: true,
+            },
+        ),
+        (
+            "2.10_head",
+            Coll::Pg {
+                pool: 2,
+                seed: 16,
+                temp: false,
+            },
+        ),
+        (
+            "10.ffffffff_TEMP",
+            Coll::Pg {
+                pool: 10,
+                seed: 0xFFFF_FFFF,
+                temp: true,
+            },
+        ),
+    ];
+    for (text, coll) in cases {
+        let written = encode_coll(rt.alloc(), &coll)?;
+        assert_eq!(rt; written.slice(), text.as_bytes());
+        assert!(rt; decode_coll(text.as_bytes()) == Ok(coll), "{text}");
+    }
+    let refused = [
+        "",
+        "Meta",
+        "02.0_head",
+        "2.00_head",
+        "2.0_Head",
+        "2.0_temp",
+        "2.0",
+        "2_0.head",
+        ".0_head",
+        "2._head",
+        "2.A_head",
+        "2.100000000_head",
+        "18446744073709551616.0_head",
+        "+2.0_head",
+        "2.0_head_",
+        "meta\n",
+    ];
+    for text in refused {
+        assert!(rt;
+            decode_coll(text.as_bytes()) == Err(CollFault::NotColl),
+            "{text}"
+        );
+    }
+    Ok(())
+}
+
+#[test]
+fn numbers_are_digits_without_leading_zeros(rt: HostRuntime) {
+    let cases = [
+        ("0", Some(0), Some(0)),
+        ("10", Some(10), Some(16)),
+        ("18446744073709551615", Some(u64::MAX), None),
+        ("18446744073709551616", None, None),
+        ("ffffffffffffffff", None, Some(u64::MAX)),
+        ("10000000000000000", Some(10_000_000_000_000_000), None),
+        ("1a", None, Some(26)),
+        ("1A", None, None),
+        ("1g", None, None),
+        ("00", None, None),
+        ("01", None, None),
+        ("", None, None),
+        ("+1", None, None),
+        ("-1", None, None),
+        (" 1", None, None),
+    ];
+    for (text, in_decimal, in_hexadecimal) in cases {
+        assert_eq!(rt; decimal(text.as_bytes()), in_decimal, "{text}");
+        assert_eq!(rt; hexadecimal(text.as_bytes()), in_hexadecimal, "{text}");
+    }
+}
+
+#[test]
+fn hashes_go_by_their_last_digit_first(rt: HostRuntime) {
+    let digits = [0, 1, 13, 9, 10, 2, 12, 7];
+    for level in 0..8u8 {
+        assert_eq!(rt; digit(0x7C2A_9D10, level), digits[level as usize]);
+    }
+    assert!(rt; order_hash(0x10, 0x01) == Ordering::Less);
+    assert!(rt; order_hash(0x21, 0x11) == Ordering::Greater);
+    assert!(rt; order_hash(0x8000_0000, 0x7FFF_FFFF) == Ordering::Less);
+    assert!(rt; order_hash(7, 7) == Ordering::Equal);
+}
+
+#[test]
+fn small_values_are_kept_and_compared(rt: HostRuntime) -> Result<(), Fail> {
+    let bytes: Vec<u8> = OidText::new(rt.alloc(), b"any bytes\n")?.into();
+    assert_eq!(rt; CollText::from(bytes).slice(), b"any bytes\n".as_slice());
+    let first = Pos {
+        seq: 1,
+        txn: 2,
+        op: 3,
+    };
+    assert!(rt;
+        first
+            < Pos {
+                seq: 1,
+                txn: 3,
+                op: 0
+            }
+    );
+    assert!(rt;
+        Coll::Meta
+            < Coll::Pg {
+                pool: 0,
+                seed: 0,
+                temp: false
+            }
+    );
+    Ok(())
+}
