@@ -1,5 +1,5 @@
 -- Reading a stream into a buffer, piece by piece.
-use Rattle.std.proofs.Common.{◌≡◌, ℕ, ◌+◌, ◌-◌, ◌<◌, ◌≤◌, List, [], ◌++◌, length, take, drop, refl, sym, ◌∙◌, ap, subst, arith}
+use Rattle.std.proofs.Common.{◌≡◌, ℕ, ◌+◌, ◌-◌, ◌<◌, ◌≤◌, List, [], ◌++◌, length, take, drop, sym, ◌∙◌, ap, subst, arith}
 use Rattle.std.specs.Prelude.{Option, None, Some, IfSome}
 use Rattle.std.proofs.lemmas.List.{take_all, take_at, take-take, take-append-le, length-take-le, length-drop}
 use Rattle.std.proofs.Math.Seq.{take-add}
@@ -11,10 +11,6 @@ use Rattle.io_edge.proofs.ToldLemmas.{without_first-without_first}
 pub record HasRead (stream left : Option (List ℕ)) (buffer : List ℕ) : Type 0 where
   pub rest : left ≡ without_first (length buffer) stream
   pub front : IfSome stream (λ bytes. (length buffer ≤ length bytes) × (buffer ≡ take (length buffer) bytes))
-
-pub HasRead-nothing : (stream : Option (List ℕ)) → HasRead stream stream []
-HasRead-nothing None = record { rest = refl; front = tt }
-HasRead-nothing (Some bytes) = record { rest = refl; front = (omega arith, refl) }
 
 filled : (before after stream : List ℕ) (n : ℕ) → Fills before after n stream → take n after ≡ take n stream
 filled before after stream n f =

@@ -22,5 +22,5 @@ pub without_first-without_first : (told : Option (List ℕ)) (m n : ℕ) → wit
 without_first-without_first None m n = refl
 without_first-without_first (Some bytes) m n = ap (λ (b : List ℕ). Some b) (drop-drop n m bytes)
 
--- step after step
+-- what callers of several steps need
 pub ruleset steps = (followed_by-nothing, followed_by-followed_by, without_first-without_first)

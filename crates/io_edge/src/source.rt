@@ -1,4 +1,4 @@
-ghost use Rattle.std.specs.Prelude.{◌≡◌, ℕ, ◌<◌, ◌≤◌, List, [], length, Option, IfSome, IfOk, OnOk, OnErr, IsErrOf};
+ghost use Rattle.std.specs.Prelude.{◌≡◌, ℕ, ◌<◌, ◌≤◌, List, [], length, vec_len, Option, IfSome, IfOk, OnOk, OnErr, IsErrOf};
 ghost use Rattle.fault_count.specs.Counted.{Counted};
 ghost use Rattle.io_edge.specs.Told.{without_first};
 ghost use Rattle.io_edge.specs.Pieces.{Fills, IsLater, IsPast};
@@ -61,6 +61,13 @@ impl From<AllocError> for ReadFault {
 /// How many bytes are asked of a source at once.
 const PIECE: usize = 65536;
 
+// A buffer for one read.
+fn new_piece(alloc: Global) -> Result<Vec<u8>, AllocError>
+    ensures { IfOk result (λ piece. 0 < vec_len piece) }
+{
+    vec![in alloc; 0u8; PIECE]
+}
+
 /// Reads a source to its end, if at most `limit` bytes are left.
 pub fn read_all<S: Source>(alloc: Global, source: &mut S, limit: usize) -> Result<Text, ReadFault>
     ensures whole { IfOk result (λ text. IfSome (S.left source.old) (λ bytes. text ≡ bytes)) }
@@ -76,7 +83,7 @@ pub fn read_all<S: Source>(alloc: Global, source: &mut S, limit: usize) -> Resul
     ensures rest { IsLater (S.left source.old) (S.left source.new) }
     ensures later { S.faults source.old ≤ S.faults source.new }
 {
-    let mut piece = vec![in alloc; 0u8; PIECE]?;
+    let mut piece = new_piece(alloc)?;
     let mut bytes = Vec::new(alloc);
     loop {
         let count = source.read(&mut piece)?;

@@ -1,16 +1,7 @@
 use Rattle.std.proofs.Common.{◌<◌, ◌≤◌, ◌++◌, take, length, ◌∙◌, ap, arith}
 use Rattle.std.proofs.lemmas.List.{length-take}
-use Rattle.io_edge.proofs.Reading.{HasRead-nothing, HasRead-more, HasRead-whole, HasRead-end, HasRead-past, HasRead-later, lent}
+use Rattle.io_edge.proofs.Reading.{HasRead-more, HasRead-whole, HasRead-end, HasRead-past, HasRead-later, lent}
 use Rattle.io_edge.proofs.source.read_all.Goals as goal
-
-pub loop-bytes-init : goal.loop-bytes-init
-loop-bytes-init g c =
-    record {
-      piece = c.in_ok-piece.ensures.len;
-      within = omega (arith, c.new-bytes.ensures.len);
-      read = rw c.new-bytes.ensures.items (HasRead-nothing _);
-      later = omega arith;
-    }
 
 pub returns-then-count-eq0-clause-whole : goal.returns-then-count-eq0-clause-whole
 returns-then-count-eq0-clause-whole g c =
@@ -21,10 +12,6 @@ pub returns-then-count-eq0-clause-end : goal.returns-then-count-eq0-clause-end
 returns-then-count-eq0-clause-end g c =
     let some : 0 < length c.deref_mut.result.now = omega (arith, c.deref_mut.ensures.len, c.loop-bytes.invariant.piece) in
     HasRead-end _ _ _ _ _ c.loop-bytes.invariant.read c.in_ok-count.ensures.moves_on (c.in_ok-count.ensures.end (cc c.if-count-eq0.true) some)
-
-pub returns-then-count-eq0-clause-rest : goal.returns-then-count-eq0-clause-rest
-returns-then-count-eq0-clause-rest g c =
-    HasRead-later _ _ _ _ _ c.loop-bytes.invariant.read c.in_ok-count.ensures.moves_on
 
 pub returns-then-limit-len-clause-too_long : goal.returns-then-limit-len-clause-too_long
 returns-then-limit-len-clause-too_long g c =

@@ -1,10 +1,10 @@
-use Rattle.std.proofs.Common.{◌≡◌, ◌-◌, ◌≤◌, vec_len}
+use Rattle.std.proofs.Common.{◌-◌, ◌<◌, ◌≤◌, vec_len}
 use Rattle.io_edge.proofs.Reading.{HasRead}
 use Rattle.io_edge.proofs.source.read_all.Given as goal
 
 abbrev pub invariant-loop-bytes : goal.invariant-loop-bytes
 invariant-loop-bytes g l = record {
-  piece : vec_len l.piece ≡ 65536;
+  piece : 0 < vec_len l.piece;
   within : vec_len l.bytes ≤ l.limit;
   read : HasRead (g.S.Source.left l.fn.source) (g.S.Source.left l.source) l.bytes.items;
   later : g.S.Source.faults l.fn.source ≤ g.S.Source.faults l.source;
