@@ -51,6 +51,6 @@ fn status_of<R: Env + AllocGlobal + Input + Print + Clone + Drop>(
     }
 }
 
-fn main(rt: HostRuntime) -> Result<ExitCode, AllocError> {
-    Ok(ExitCode::from(status_of(&rt)?.0))
+fn main(rt: HostRuntime) -> ExitCode {
+    ExitCode::from(status_of(&rt).unwrap_or(Status::MEMORY).0)
 }
