@@ -4,6 +4,7 @@ use crate::{
 };
 use std::alloc::Global;
 use std::cmp::Ordering;
+use std::process::Abort;
 use std::test::Fail;
 
 #[test]
@@ -50,51 +51,43 @@ fn object(
     })
 }
 
+// The object and the text are each other's.
+fn are_one(rt: &impl Abort, alloc: Global, oid: &Oid, text: &str) -> Result<(), Fail> {
+    let written = encode_oid(alloc, oid)?;
+    assert!(rt; written.slice() == text.as_bytes(), "{text}");
+    let read = decode_oid(alloc, text.as_bytes())?;
+    assert!(rt; read == *oid, "{text}");
+    let copy = read.copy()?;
+    assert!(rt; copy == *oid, "{text}");
+    Ok(())
+}
+
 #[test]
 fn objects_have_these_texts(rt: HostRuntime) -> Result<(), Fail> {
     let alloc = rt.alloc();
-    let cases: [(&str, Oid); 6] = [
-        (
-            "a__head_00000001__1",
-            object(alloc, b"a", b"", b"", Snap::Head, 1, Some(1))?,
-        ),
-        (
-            "o0__head_00000010__1",
-            object(alloc, b"o0", b"", b"", Snap::Head, 16, Some(1))?,
-        ),
-        (
-            "__head_00000010__2",
-            object(alloc, b"", b"", b"", Snap::Head, 16, Some(2))?,
-        ),
-        (
-            "rbd.1_k.1_snapdir_7C2A9D10_ns_ff",
-            object(
-                alloc,
-                b"rbd.1",
-                b"k.1",
-                b"ns",
-                Snap::Dir,
-                0x7C2A_9D10,
-                Some(255),
-            )?,
-        ),
-        (
-            "b__1a_0000A1B2__none",
-            object(alloc, b"b", b"", b"", Snap::Id(26), 0xA1B2, None)?,
-        ),
-        (
-            "c__0_FFFFFFFF__0",
-            object(alloc, b"c", b"", b"", Snap::Id(0), 0xFFFF_FFFF, Some(0))?,
-        ),
+    let plain = [
+        ("a__head_00000001__1", 1u32),
+        ("a__head_00000010__1", 16),
+        ("a__head_FFFFFFFF__1", 0xFFFF_FFFF),
     ];
-    for (text, oid) in &cases {
-        let written = encode_oid(alloc, oid)?;
-        assert_eq!(rt; written.slice(), text.as_bytes());
-        let read = decode_oid(alloc, text.as_bytes())?;
-        assert!(rt; read == *oid, "{text}");
-        assert!(rt; read.copy()? == *oid, "{text}");
+    for (text, hash) in plain {
+        let oid = object(alloc, b"a", b"", b"", Snap::Head, hash, Some(1))?;
+        are_one(&rt, alloc, &oid, text)?;
     }
-    Ok(())
+    let whole = object(
+        alloc,
+        b"rbd.1",
+        b"k.1",
+        b"ns",
+        Snap::Dir,
+        0x7C2A_9D10,
+        Some(255),
+    )?;
+    are_one(&rt, alloc, &whole, "rbd.1_k.1_snapdir_7C2A9D10_ns_ff")?;
+    let bare = object(alloc, b"", b"", b"", Snap::Id(26), 0xA1B2, None)?;
+    are_one(&rt, alloc, &bare, "__1a_0000A1B2__none")?;
+    let zeros = object(alloc, b"c", b"", b"", Snap::Id(0), 0, Some(0))?;
+    are_one(&rt, alloc, &zeros, "c__0_00000000__0")
 }
 
 #[test]
