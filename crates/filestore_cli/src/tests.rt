@@ -113,16 +113,17 @@ fn a_source_that_fails_ends_the_run(rt: HostRuntime) -> Result<(), Fail> {
 
 #[test]
 fn a_sink_that_fails_keeps_what_was_written(rt: HostRuntime) -> Result<(), Fail> {
-    let lines = [
-        "",
-        "queued 1\n",
-        "queued 1\nqueued 2\n",
-        "queued 1\nqueued 2\nack 2\ndrained 2\n",
-        "queued 1\nqueued 2\nack 2\ndrained 2\ndata x68656c6c6f\n",
+    let cases = [
+        (1, ""),
+        (2, "queued 1\n"),
+        (3, "queued 1\nqueued 2\n"),
+        (4, "queued 1\nqueued 2\nack 2\ndrained 2\n"),
+        (
+            5,
+            "queued 1\nqueued 2\nack 2\ndrained 2\ndata x68656c6c6f\n",
+        ),
     ];
-    let mut call = 0u64;
-    for output in lines {
-        call += 1;
+    for (call, output) in cases {
         let (status, written) = ran(rt.alloc(), &["run", "new"], FIRST_SCRIPT, &[], &[call])?;
         assert_eq!(rt; status, 6);
         assert!(rt; written.as_slice() == output.as_bytes(), "{output}");

@@ -86,6 +86,14 @@ fn each_refused_line_has_its_number_and_its_reason(rt: HostRuntime) -> Result<()
     Ok(())
 }
 
+fn is_write_of_two_bytes(statement: &Statement) -> bool {
+    match statement {
+        Statement::Do(Op::Write { at, bytes, .. }) => *at == 4
+            && bytes.slice() == [0, 255].as_slice(),
+        _ => false,
+    }
+}
+
 #[test]
 fn lines_that_say_something_are_read(rt: HostRuntime) -> Result<(), Fail> {
     let text =
@@ -104,12 +112,7 @@ fn lines_that_say_something_are_read(rt: HostRuntime) -> Result<(), Fail> {
     let Some(second) = script.next() else {
         return Err(Fail::from("no line"));
     };
-    match second.statement {
-        Statement::Do(Op::Write { at, bytes, .. }) => assert!(rt;
-            second.number == 4 && at == 4 && bytes.slice() == [0, 255].as_slice()
-        ),
-        _ => assert!(rt; false, "no write"),
-    }
+    assert!(rt; second.number == 4 && is_write_of_two_bytes(&second.statement));
     let Some(third) = script.next() else {
         return Err(Fail::from("no line"));
     };
