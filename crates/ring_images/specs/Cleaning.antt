@@ -73,7 +73,9 @@ piece_block size start off n low high a b c lt small = ⊎_elim
     (cases_lt off (size - start))
 
 -- All entries are synced and are just what is read, and the free blocks up to here begin no entry.
-pub record Cleared (h : Head) (size : ℕ) (fs : List Entry) (to : ℕ) (d : Disk) : Type 0 where
+pub record Cleared (h : Head) (size : ℕ) (front : List ℕ) (fs : List Entry) (to : ℕ) (d : Disk) : Type 0 where
+  -- the headers' blocks stay
+  pub heads : take 8192 d.asked ≡ front
   pub quiet : Quiet h size fs d
   pub same : d.reads ≡ d.asked
   pub clean : CleanTo (sizes fs) to (turned h.start d.asked)
@@ -97,13 +99,13 @@ quiet_settled h size bytes l low high header =
       now = read;
     }
 
-pub cleared_none : (h : Head) (size : ℕ) (fs : List Entry) (bytes : List ℕ) → Quiet h size fs (settled bytes) → Cleared h size fs (sizes fs) (settled bytes)
-cleared_none h size fs bytes q = record { quiet = q; same = refl; clean = clean_none (sizes fs) (turned h.start bytes) }
+pub cleared_none : (h : Head) (size : ℕ) (fs : List Entry) (bytes : List ℕ) → Quiet h size fs (settled bytes) → Cleared h size (take 8192 bytes) fs (sizes fs) (settled bytes)
+cleared_none h size fs bytes q = record { heads = refl; quiet = q; same = refl; clean = clean_none (sizes fs) (turned h.start bytes) }
 
 -- one block more
-pub cleared_one : (h : Head) (size : ℕ) (fs : List Entry) (d : Disk) (j : ℕ) → h.start % 4096 ≡ 0 → size % 4096 ≡ 0 → sizes fs % 4096 ≡ 0 → sizes fs + 4096 * j < size - 8192
-    → Cleared h size fs (sizes fs + 4096 * j) d → Cleared h size fs (sizes fs + 4096 * j + 4096) (wrote d (place_of size h.start (sizes fs + 4096 * j)) zeros)
-cleared_one h size fs d j a b c lt was =
+pub cleared_one : (h : Head) (size : ℕ) (front : List ℕ) (fs : List Entry) (d : Disk) (j : ℕ) → h.start % 4096 ≡ 0 → size % 4096 ≡ 0 → sizes fs % 4096 ≡ 0 → sizes fs + 4096 * j < size - 8192
+    → Cleared h size front fs (sizes fs + 4096 * j) d → Cleared h size front fs (sizes fs + 4096 * j + 4096) (wrote d (place_of size h.start (sizes fs + 4096 * j)) zeros)
+cleared_one h size front fs d j a b c lt was =
     let q = was.quiet in
     let off = sizes fs + 4096 * j in
     let at = place_of size h.start off in
@@ -116,20 +118,22 @@ cleared_one h size fs d j a b c lt was =
     let first : drop (sizes fs + 4096 * 0) (put T off zeros) ≡ drop (sizes fs) (put T off zeros) = ap (λ (k : ℕ). drop k (put T off zeros)) (let e : sizes fs + 4096 * 0 ≡ sizes fs = omega arith in e) in
     let ends : EndsAt (drop (sizes fs) (put T off zeros)) = λ e. clean 0 (omega arith) (ap (take 8) first ∙ e) in
     record {
+      heads = put_front 8192 d.asked at zeros piece.behind (omega (arith, q.sized.asked, piece.fits)) ∙ was.heads;
       quiet = cleared h size fs d q at off zeros piece behind ends;
       same = ap (λ (l : List ℕ). put l at zeros) was.same;
       clean = subst (CleanTo (sizes fs) (off + 4096)) (sym (turns h size fs d q at off zeros piece behind)) clean;
     }
 
 -- and all of them stable
-pub cleared_synced : (h : Head) (size : ℕ) (fs : List Entry) (to : ℕ) (d : Disk) → Cleared h size fs to d → Cleared h size fs to (settled d.reads)
-cleared_synced h size fs to d was =
+pub cleared_synced : (h : Head) (size : ℕ) (front : List ℕ) (fs : List Entry) (to : ℕ) (d : Disk) → Cleared h size front fs to d → Cleared h size front fs to (settled d.reads)
+cleared_synced h size front fs to d was =
     let q = was.quiet in
     let r : d.reads ≡ d.asked = was.same in
     let stand = subst (λ (l : List ℕ). Stand (ring_of h size) 0 h.seq 0 (turned h.start l) fs) (sym r) q.stand in
     let now = subst (λ (l : List ℕ). IsRead (ring_of h size) 0 h.seq 0 (turned h.start l) fs) (sym r) q.now in
     let header : head_of d.reads ≡ Some h = ap head_of r ∙ q.header_now in
     record {
+      heads = ap (take 8192) r ∙ was.heads;
       quiet = record {
         sized = record { stable = q.sized.reads; asked = q.sized.reads; reads = q.sized.reads };
         low = q.low;
@@ -148,8 +152,8 @@ cleared_synced h size fs to d was =
     }
 
 -- a settled device whose free blocks are all clean may take more
-pub cleared_ready : (h : Head) (size : ℕ) (fs : List Entry) (bytes : List ℕ) → Cleared h size fs (size - 8192) (settled bytes) → Ready h size fs [] (settled bytes)
-cleared_ready h size fs bytes was =
+pub cleared_ready : (h : Head) (size : ℕ) (front : List ℕ) (fs : List Entry) (bytes : List ℕ) → Cleared h size front fs (size - 8192) (settled bytes) → Ready h size fs [] (settled bytes)
+cleared_ready h size front fs bytes was =
     let q = was.quiet in
     let all = append-nil fs in
     let long : length (turned h.start bytes) ≡ size - 8192 = length-turned h.start bytes q.low (omega (arith, q.sized.stable, q.high)) ∙ ap (λ (k : ℕ). k - 8192) q.sized.stable in

@@ -60,8 +60,9 @@ module _ (size : ℕ) (block : List ℕ) (h : Head) (big : 16384 ≤ size) (star
       (is_read with_head h size head_made length-with_head (omega (arith, start)) (omega (arith, start, big)))
       (next_none (ring_of h size) 0 h.seq 0 (turned h.start with_head) (λ e. ends 0 e))
 
-  pub cleared_made : Cleared h size [] (size - 8192) (settled with_head)
+  pub cleared_made : Cleared h size (take 8192 with_head) [] (size - 8192) (settled with_head)
   cleared_made = record {
+    heads = refl;
     quiet = subst (λ (es : List Entry). Quiet h size es (settled with_head)) readable_made (quiet_settled h size with_head length-with_head (omega (arith, start)) (omega (arith, start, big)) head_made);
     same = refl;
     clean = λ k lt e. ends (0 + 4096 * k) e;

@@ -1,0 +1,9 @@
+mod Begins
+mod Clears
+mod Founds
+mod Nexts
+mod Restarts
+mod Spans
+mod Steps
+mod Tells
+mod Wipes

@@ -1,0 +1,360 @@
+-- Each part of a payload is read as it was spelled.
+use Rattle.std.proofs.Common.{◌≡◌, ℕ, zero, suc, ◌+◌, ◌*◌, ◌^◌, ◌<◌, ◌≤◌, Bool, true, false, cond, ltb, eqb, List, [], ◌∷◌, ◌++◌, length, get_or, Option, Some, None, is_none, Result, Ok, Err, refl, sym, ap, subst, ◌∙◌, append_assoc, arith}
+use Rattle.std.specs.Int.{w16, w32, w64}
+use Rattle.std.specs.List.{flat_map, AllByRecursion}
+use Rattle.std.specs.Prelude.{IfSome}
+use Rattle.std.proofs.lemmas.Bool.{ltb-false, le-ltb, eqb-true}
+use Rattle.std.proofs.lemmas.List.{append-nil, nil_from_length, length-append}
+use Rattle.std.proofs.lemmas.Nat.{be_bytes_2, be_bytes_4, be_bytes_8}
+use Rattle.byteorder.specs.Endian.{big_bytes, big_number}
+use Rattle.byteorder.specs.Numbers.{big_number-reads_back, length-bytes_high_first}
+use Rattle.fs_names.specs.declared.coll.Coll.{Coll}
+use Rattle.fs_names.specs.declared.coll.Coll.TheVariants.{Meta, Pg}
+use Rattle.fs_names.specs.declared.oid.Oid.{Oid}
+use Rattle.fs_names.specs.declared.oid.Snap.{Snap}
+use Rattle.fs_names.specs.declared.oid.Snap.TheVariants.{Head, Dir, Id}
+use Rattle.fs_names.specs.Names.{IsName, bad_at}
+use Rattle.fs_names.specs.Codes.{oid_pack, oid_unpack}
+use Rattle.fs_names.specs.Reading.{CollFits, OidFits, SnapFits}
+use Rattle.fs_model.specs.declared.op.Op.{Op}
+use Rattle.fs_model.specs.declared.op.Op.TheVariants.{MkColl, Touch, Write}
+use Rattle.txn_codec.specs.declared.fault.CodecFault.{CodecFault}
+use Rattle.txn_codec.specs.declared.fault.CodecFault.TheVariants.{Short, BadTag, BadLength, Trailing}
+use Rattle.txn_codec.specs.Spelling.{sized, flag, coll, snap, pool, oid, op, payload, OpFits, OpsFit}
+use Rattle.txn_codec.specs.Reading.{Rest, Reader, ◌>>=◌, ◌&◌, mapped, given, field, number, tagged, flag_follows, coll_follows, snap_follows, pool_follows, name_or_fault, name_of, name_at, blob_at, coll_at, oid_at, op_follows, op_at, repeated, ops_at, decoded}
+use Rattle.txn_codec.proofs.Codec.{IsBytes, rest_of, got, bind_ok, guard_ok, test_ok, ok_is, Takes, Codec, TakesField, field_takes, field_again, both, both_spell, both_fit, mapped_takes, mapped_again, TakesTag, Tags, HasTag, tagged_codec, given_takes, given_again, fields_take, fields_again, TakesAll, all_take, all_again}
+
+-- ---- numbers
+
+pub record IsWide (n limit : ℕ) : Type 0 where
+  pub back : (bytes : List ℕ) → length bytes ≡ n → IsBytes bytes → big_bytes n (big_number n bytes) ≡ bytes
+  pub below : (bytes : List ℕ) → IsBytes bytes → big_number n bytes < limit
+  pub again : (x : ℕ) → x < limit → big_number n (big_bytes n x) ≡ x
+
+again_by : (n x : ℕ) → x < 256 ^ n → big_number n (big_bytes n x) ≡ x
+again_by n x h = ap (big_number n) (sym (append-nil (big_bytes n x))) ∙ big_number-reads_back n x [] h
+
+pub wide2 : IsWide 2 (2 ^ 16)
+wide2 = record {
+  back = λ bytes len fits. be_bytes_2 bytes _ len fits (omega arith);
+  below = λ bytes fits. omega (arith, fits 0, fits 1);
+  again = λ x h. again_by 2 x h;
+}
+
+pub wide4 : IsWide 4 (2 ^ 32)
+wide4 = record {
+  back = λ bytes len fits. be_bytes_4 bytes _ len fits (omega arith);
+  below = λ bytes fits. omega (arith, fits 0, fits 1, fits 2, fits 3);
+  again = λ x h. again_by 4 x h;
+}
+
+pub wide8 : IsWide 8 (2 ^ 64)
+wide8 = record {
+  back = λ bytes len fits. be_bytes_8 bytes _ len fits (omega arith);
+  below = λ bytes fits. omega (arith, fits 0, fits 1, fits 2, fits 3, fits 4, fits 5, fits 6, fits 7);
+  again = λ x h. again_by 8 x h;
+}
+
+abbrev Below : ℕ → ℕ → Type 0
+Below limit x = x < limit
+
+pub number_codec : (n limit : ℕ) → IsWide n limit → Codec (big_bytes n) (Below limit) (number n)
+number_codec n limit wide = record {
+  takes = λ r x fits e.
+      let p = bind_ok (field n r) (λ f. Ok (big_number n f.0, f.1)) x e in
+      let f : List ℕ × Rest = p.0 in
+      let t : TakesField n r f = field_takes n r f fits p.1.0 in
+      subst (Takes (big_bytes n) (Below limit) r) (ok_is (big_number n f.0, f.1) x p.1.1)
+      (record { parts = t.parts ∙ ap (λ (l : List ℕ). l ++ f.1.bytes) (sym (wide.back f.0 t.len t.bytes)); fit = wide.below f.0 t.bytes; rest = t.rest });
+  again = λ x at bytes fit.
+      let len : length (big_bytes n x) ≡ n = length-bytes_high_first n x in
+      ap (λ (r : Result (List ℕ × Rest) CodecFault). r >>= λ f. Ok (big_number n f.0, f.1)) (field_again n at (big_bytes n x) bytes len)
+      ∙ ap (λ (y : ℕ). got y (rest_of (at + n) bytes)) (wide.again x fit)
+      ∙ ap (λ (k : ℕ). got x (rest_of (at + k) bytes)) (sym len);
+}
+
+-- ---- bytes behind their length
+
+abbrev FitsIn : ℕ → List ℕ → Type 0
+FitsIn limit bytes = length bytes < limit
+
+sized_place : (at k m : ℕ) (l : List ℕ) → m ≡ k → (at + m) + length l ≡ at + (k + length l)
+sized_place at k m l e = omega arith
+
+module _ (n limit : ℕ) (wide : IsWide n limit) where
+  sized_takes : (r : Rest) (len : ℕ × Rest) (f : List ℕ × Rest) → IsBytes r.bytes → number n r ≡ Ok len → field len.0 len.1 ≡ Ok f → Takes (sized n) (FitsIn limit) r f
+  sized_takes r len f fits e d =
+      let a : Takes (big_bytes n) (Below limit) r len = (number_codec n limit wide).takes r len fits e in
+      let t : TakesField len.0 len.1 f = field_takes len.0 len.1 f a.rest d in
+      record {
+        parts = a.parts ∙ ap (λ (l : List ℕ). big_bytes n len.0 ++ l) t.parts ∙ sym (append_assoc (big_bytes n len.0) f.0 f.1.bytes)
+            ∙ ap (λ (k : ℕ). (big_bytes n k ++ f.0) ++ f.1.bytes) (sym t.len);
+        fit = subst (λ (k : ℕ). k < limit) (sym t.len) a.fit;
+        rest = t.rest;
+      }
+
+  length_sized : (l : List ℕ) (at : ℕ) → (at + length (big_bytes n (length l))) + length l ≡ at + length (sized n l)
+  length_sized l at = omega (arith, length-append (big_bytes n (length l)) l)
+
+pub blob_codec : Codec (sized 4) (FitsIn (2 ^ 32)) blob_at
+unfolding blob_at
+blob_codec = record {
+  takes = λ r x fits e.
+      let p = bind_ok (number 4 r) (λ len. field len.0 len.1) x e in
+      sized_takes 4 (2 ^ 32) wide4 r p.0 x fits p.1.0 p.1.1;
+  again = λ l at bytes fit.
+      ap (λ (w : List ℕ). blob_at (rest_of at w)) (append_assoc (big_bytes 4 (length l)) l bytes)
+      ∙ ap (λ (r : Result (ℕ × Rest) CodecFault). r >>= λ len. field len.0 len.1) ((number_codec 4 (2 ^ 32) wide4).again (length l) at (l ++ bytes) fit)
+      ∙ field_again (length l) _ l bytes refl
+      ∙ ap (λ (k : ℕ). got l (rest_of k bytes)) (length_sized 4 (2 ^ 32) wide4 l at);
+}
+
+none_is : {A : Type 0} (o : Option A) → is_none o ≡ true → o ≡ None
+none_is None e = refl
+none_is (Some x) e = absurd (cc)
+
+pub name_codec : Codec (sized 2) IsName name_at
+unfolding name_at
+name_codec = record {
+  takes = λ r x fits e.
+      let p = bind_ok (number 2 r) (λ len. cond (ltb 1024 len.0) (Err (BadLength r.at)) (name_of len.0 len.1)) x e in
+      let len : ℕ × Rest = p.0 in
+      let g = guard_ok (ltb 1024 len.0) (BadLength r.at) (name_of len.0 len.1) x p.1.1 in
+      let q = bind_ok (field len.0 len.1) (name_or_fault len.1.at) x g.1 in
+      let f : List ℕ × Rest = q.0 in
+      let w = test_ok (is_none (bad_at f.0)) (BadTag len.1.at) f x q.1.1 in
+      let t : Takes (sized 2) (FitsIn (2 ^ 16)) r f = sized_takes 2 (2 ^ 16) wide2 r len f fits p.1.0 q.1.0 in
+      let a : Takes (big_bytes 2) (Below (2 ^ 16)) r len = (number_codec 2 (2 ^ 16) wide2).takes r len fits p.1.0 in
+      let d : TakesField len.0 len.1 f = field_takes len.0 len.1 f a.rest q.1.0 in
+      let few : len.0 ≤ 1024 = ltb-false _ _ g.0 in
+      subst (Takes (sized 2) IsName r) w.1
+      (record { parts = t.parts; fit = record { plain = none_is (bad_at f.0) w.0; short = subst (λ (k : ℕ). k ≤ 1024) (sym d.len) few }; rest = t.rest });
+  again = λ l at bytes fit.
+      let few : ltb 1024 (length l) ≡ false = le-ltb _ _ fit.short in
+      let m : ℕ = at + length (big_bytes 2 (length l)) in
+      ap (λ (w : List ℕ). name_at (rest_of at w)) (append_assoc (big_bytes 2 (length l)) l bytes)
+      ∙ ap (λ (r : Result (ℕ × Rest) CodecFault). r >>= λ len. cond (ltb 1024 len.0) (Err (BadLength at)) (name_of len.0 len.1)) ((number_codec 2 (2 ^ 16) wide2).again (length l) at (l ++ bytes) (omega (arith, fit.short)))
+      ∙ ap (λ (b : Bool). cond b (Err (BadLength at)) (name_of (length l) (rest_of m (l ++ bytes)))) few
+      ∙ ap (λ (r : Result (List ℕ × Rest) CodecFault). r >>= name_or_fault m) (field_again (length l) m l bytes refl)
+      ∙ ap (λ (o : Option ℕ). cond (is_none o) (got l (rest_of (m + length l) bytes)) (Err (BadTag m))) fit.plain
+      ∙ ap (λ (k : ℕ). got l (rest_of k bytes)) (length_sized 2 (2 ^ 16) wide2 l at);
+}
+
+-- ---- flags, collections, snapshots and pools
+
+abbrev Any : {A : Type 0} → A → Type 0
+Any a = Unit {0}
+
+abbrev flag_takes : (tag : ℕ) (read : Reader Bool) → flag_follows tag ≡ Some read → (r : Rest) (x : Bool × Rest) → IsBytes r.bytes → read r ≡ Ok x → TakesTag flag Any tag r x
+flag_takes zero read is r x bytes e = given_takes flag Any flag_follows false 0 refl tt read is r x bytes e
+flag_takes (suc zero) read is r x bytes e = given_takes flag Any flag_follows true 1 refl tt read is r x bytes e
+flag_takes (suc (suc n)) read is r x bytes e = absurd (cc)
+
+abbrev flag_again : (b : Bool) → HasTag flag flag_follows b
+flag_again false = given_again flag Any flag_follows false 0 refl refl
+flag_again true = given_again flag Any flag_follows true 1 refl refl
+
+pub flag_codec : Codec flag Any (tagged flag_follows)
+flag_codec = tagged_codec (record { takes = flag_takes; again = λ b fit. flag_again b })
+
+abbrev pg_spell : ℕ × (ℕ × Bool) → List ℕ
+pg_spell = both_spell (big_bytes 8) (both_spell (big_bytes 4) flag)
+
+abbrev PgFits : ℕ × (ℕ × Bool) → Type 0
+PgFits = both_fit (Below (2 ^ 64)) (both_fit (Below (2 ^ 32)) Any)
+
+pg_codec : Codec pg_spell PgFits (number 8 & number 4 & tagged flag_follows)
+pg_codec = both (number_codec 8 (2 ^ 64) wide8) (both (number_codec 4 (2 ^ 32) wide4) flag_codec)
+
+abbrev pg : ℕ × (ℕ × Bool) → Coll
+pg p = Pg p.0 p.1.0 p.1.1
+
+coll_takes : (tag : ℕ) (read : Reader Coll) → coll_follows tag ≡ Some read → (r : Rest) (x : Coll × Rest) → IsBytes r.bytes → read r ≡ Ok x → TakesTag coll CollFits tag r x
+coll_takes zero read is r x bytes e = given_takes coll CollFits coll_follows Meta 0 refl tt read is r x bytes e
+coll_takes (suc zero) read is r x bytes e = fields_take pg_codec coll CollFits coll_follows pg 1 (λ p. refl) (λ p fit. (fit.0, fit.1.0)) read is r x bytes e
+coll_takes (suc (suc n)) read is r x bytes e = absurd (cc)
+
+coll_again : (c : Coll) → CollFits c → HasTag coll coll_follows c
+coll_again Meta fit = given_again coll CollFits coll_follows Meta 0 refl refl
+coll_again (Pg pool seed temp) fit = fields_again pg_codec coll CollFits coll_follows pg 1 (λ p. refl) (pool, (seed, temp)) (fit.0, (fit.1, tt)) refl
+
+pub coll_codec : Codec coll CollFits coll_at
+unfolding coll_at
+coll_codec = tagged_codec (record { takes = coll_takes; again = coll_again })
+
+snap_takes : (tag : ℕ) (read : Reader Snap) → snap_follows tag ≡ Some read → (r : Rest) (x : Snap × Rest) → IsBytes r.bytes → read r ≡ Ok x → TakesTag snap SnapFits tag r x
+snap_takes zero read is r x bytes e = given_takes snap SnapFits snap_follows Head 0 refl tt read is r x bytes e
+snap_takes (suc zero) read is r x bytes e = given_takes snap SnapFits snap_follows Dir 1 refl tt read is r x bytes e
+snap_takes (suc (suc zero)) read is r x bytes e =
+    fields_take (number_codec 8 (2 ^ 64) wide8) snap SnapFits snap_follows Id 2 (λ n. refl) (λ n fit. fit) read is r x bytes e
+snap_takes (suc (suc (suc n))) read is r x bytes e = absurd (cc)
+
+snap_again : (s : Snap) → SnapFits s → HasTag snap snap_follows s
+snap_again Head fit = given_again snap SnapFits snap_follows Head 0 refl refl
+snap_again Dir fit = given_again snap SnapFits snap_follows Dir 1 refl refl
+snap_again (Id n) fit = fields_again (number_codec 8 (2 ^ 64) wide8) snap SnapFits snap_follows Id 2 (λ n. refl) n fit refl
+
+pub snap_codec : Codec snap SnapFits (tagged snap_follows)
+snap_codec = tagged_codec (record { takes = snap_takes; again = snap_again })
+
+abbrev PoolFits : Option ℕ → Type 0
+PoolFits o = IfSome o (λ p. p < 2 ^ 64)
+
+pool_takes : (tag : ℕ) (read : Reader (Option ℕ)) → pool_follows tag ≡ Some read → (r : Rest) (x : Option ℕ × Rest) → IsBytes r.bytes → read r ≡ Ok x → TakesTag pool PoolFits tag r x
+pool_takes zero read is r x bytes e = given_takes pool PoolFits pool_follows None 0 refl tt read is r x bytes e
+pool_takes (suc zero) read is r x bytes e =
+    fields_take (number_codec 8 (2 ^ 64) wide8) pool PoolFits pool_follows Some 1 (λ n. refl) (λ n fit. fit) read is r x bytes e
+pool_takes (suc (suc n)) read is r x bytes e = absurd (cc)
+
+pool_again : (o : Option ℕ) → PoolFits o → HasTag pool pool_follows o
+pool_again None fit = given_again pool PoolFits pool_follows None 0 refl refl
+pool_again (Some n) fit = fields_again (number_codec 8 (2 ^ 64) wide8) pool PoolFits pool_follows Some 1 (λ n. refl) n fit refl
+
+pub pool_codec : Codec pool PoolFits (tagged pool_follows)
+pool_codec = tagged_codec (record { takes = pool_takes; again = pool_again })
+
+-- ---- objects
+
+abbrev Fields : Type 0
+Fields = List ℕ × (List ℕ × (List ℕ × (Snap × (ℕ × Option ℕ))))
+
+abbrev fields_spell : Fields → List ℕ
+fields_spell = both_spell (sized 2) (both_spell (sized 2) (both_spell (sized 2) (both_spell snap (both_spell (big_bytes 4) pool))))
+
+abbrev FieldsFit : Fields → Type 0
+FieldsFit = both_fit IsName (both_fit IsName (both_fit IsName (both_fit SnapFits (both_fit (Below (2 ^ 32)) PoolFits))))
+
+fields_codec : Codec fields_spell FieldsFit (name_at & name_at & name_at & tagged snap_follows & number 4 & tagged pool_follows)
+fields_codec = both name_codec (both name_codec (both name_codec (both snap_codec (both (number_codec 4 (2 ^ 32) wide4) pool_codec))))
+
+oid_fits : (p : Fields) → FieldsFit p → OidFits (oid_unpack p)
+oid_fits p f = record { name = f.0; key = f.1.0; nspace = f.1.1.0; snap = f.1.1.1.0; hash = f.1.1.1.1.0; pool = f.1.1.1.1.1 }
+
+fields_fit : (o : Oid) → OidFits o → FieldsFit (oid_pack o)
+fields_fit o f = (f.name, (f.key, (f.nspace, (f.snap, (f.hash, f.pool)))))
+
+pub oid_codec : Codec oid OidFits oid_at
+unfolding oid_at
+oid_codec = record {
+  takes = λ r x bytes e.
+      let t = mapped_takes oid_unpack fields_codec r x bytes e in
+      let u : Fields × Rest = t.0 in
+      let one : Takes fields_spell FieldsFit r u = t.1.0 in
+      subst (Takes oid OidFits r) t.1.1 (record { parts = one.parts; fit = oid_fits u.0 one.fit; rest = one.rest });
+  again = λ o at bytes fit. mapped_again oid_unpack fields_codec (oid_pack o) at bytes (fields_fit o fit);
+}
+
+-- ---- operations
+
+abbrev touch : Coll × Oid → Op
+touch p = Touch p.0 p.1
+
+abbrev touch_spell : Coll × Oid → List ℕ
+touch_spell = both_spell coll oid
+
+touch_codec : Codec touch_spell (both_fit CollFits OidFits) (coll_at & oid_at)
+touch_codec = both coll_codec oid_codec
+
+abbrev write : Coll × (Oid × (ℕ × List ℕ)) → Op
+write p = Write p.0 p.1.0 p.1.1.0 p.1.1.1
+
+abbrev write_spell : Coll × (Oid × (ℕ × List ℕ)) → List ℕ
+write_spell = both_spell coll (both_spell oid (both_spell (big_bytes 8) (sized 4)))
+
+abbrev WriteFits : Coll × (Oid × (ℕ × List ℕ)) → Type 0
+WriteFits = both_fit CollFits (both_fit OidFits (both_fit (Below (2 ^ 64)) (FitsIn (2 ^ 32))))
+
+write_codec : Codec write_spell WriteFits (coll_at & oid_at & number 8 & blob_at)
+write_codec = both coll_codec (both oid_codec (both (number_codec 8 (2 ^ 64) wide8) blob_codec))
+
+abbrev OpTakes : ℕ → Option (Reader Op) → Type 0
+OpTakes tag o = (read : Reader Op) → o ≡ Some read → (r : Rest) (x : Op × Rest) → IsBytes r.bytes → read r ≡ Ok x → TakesTag op OpFits tag r x
+
+touch_takes : OpTakes 1 (Some (mapped touch (coll_at & oid_at)))
+touch_takes read is r x bytes e = fields_take touch_codec op OpFits op_follows touch 1 (λ p. refl) (λ p fit. fit) read is r x bytes e
+
+write_takes : OpTakes 2 (Some (mapped write (coll_at & oid_at & number 8 & blob_at)))
+write_takes read is r x bytes e = fields_take write_codec op OpFits op_follows write 2 (λ p. refl) (λ p fit. fit) read is r x bytes e
+
+mkcoll_takes : OpTakes 12 (Some (mapped MkColl coll_at))
+mkcoll_takes read is r x bytes e = fields_take coll_codec op OpFits op_follows MkColl 12 (λ c. refl) (λ c fit. fit) read is r x bytes e
+
+none_takes : (tag : ℕ) → OpTakes tag None
+none_takes tag read is r x bytes e = absurd (cc)
+
+-- one case of a choice by the tag
+by_tag : (tag this : ℕ) (a b : Option (Reader Op)) → (tag ≡ this → OpTakes tag a) → OpTakes tag b → OpTakes tag (cond (eqb tag this) a b)
+by_tag tag this a b here other =
+    elim (eqb tag this) as (λ t. eqb tag this ≡ t → OpTakes tag (cond t a b)) [ true ↦ λ e. here (eqb-true tag this e) | false ↦ λ e. other ] refl
+
+at_tag : (this : ℕ) (o : Option (Reader Op)) → OpTakes this o → (tag : ℕ) → tag ≡ this → OpTakes tag o
+at_tag this o takes tag e = subst (λ (t : ℕ). OpTakes t o) (sym e) takes
+
+op_takes : (tag : ℕ) → OpTakes tag (op_follows tag)
+op_takes tag =
+    by_tag tag 1 _ _ (at_tag 1 _ touch_takes tag)
+    (by_tag tag 2 _ _ (at_tag 2 _ write_takes tag)
+    (by_tag tag 12 _ _ (at_tag 12 _ mkcoll_takes tag) (none_takes tag)))
+
+op_again : (o : Op) → OpFits o → HasTag op op_follows o
+op_again (MkColl c) fit = fields_again coll_codec op OpFits op_follows MkColl 12 (λ c. refl) c fit refl
+op_again (Touch c o) fit = fields_again touch_codec op OpFits op_follows touch 1 (λ p. refl) (c, o) fit refl
+op_again (Write c o at bytes) fit = fields_again write_codec op OpFits op_follows write 2 (λ p. refl) (c, (o, (at, bytes))) fit refl
+
+pub op_codec : Codec op OpFits op_at
+unfolding op_at
+op_codec = tagged_codec (record { takes = λ tag read is. op_takes tag read is; again = op_again })
+
+-- ---- payloads
+
+ops_take : (r : Rest) (x : List Op × Rest) → IsBytes r.bytes → ops_at r ≡ Ok x → Takes payload OpsFit r x
+unfolding ops_at
+ops_take r x bytes e =
+    let p = bind_ok (number 4 r) (λ count. cond (ltb 4096 count.0) (Err (BadLength r.at)) (repeated count.0 op_at count.1)) x e in
+    let count : ℕ × Rest = p.0 in
+    let g = guard_ok (ltb 4096 count.0) (BadLength r.at) (repeated count.0 op_at count.1) x p.1.1 in
+    let a : Takes (big_bytes 4) (Below (2 ^ 32)) r count = (number_codec 4 (2 ^ 32) wide4).takes r count bytes p.1.0 in
+    let t : TakesAll op OpFits count.0 count.1 x = all_take op_codec count.0 count.1 x a.rest g.1 in
+    let few : count.0 ≤ 4096 = ltb-false _ _ g.0 in
+    record {
+      parts = a.parts ∙ ap (λ (l : List ℕ). big_bytes 4 count.0 ++ l) t.parts ∙ sym (append_assoc (big_bytes 4 count.0) (flat_map op x.0) x.1.bytes)
+          ∙ ap (λ (n : ℕ). (big_bytes 4 n ++ flat_map op x.0) ++ x.1.bytes) (sym t.count);
+      fit = (subst (λ (n : ℕ). n ≤ 4096) (sym t.count) few, t.fit);
+      rest = t.rest;
+    }
+
+-- what is read of a payload, wherever it ends
+ops_again : (ops : List Op) (bytes : List ℕ) → OpsFit ops → (at : ℕ) × (ops_at (rest_of 0 (payload ops ++ bytes)) ≡ got ops (rest_of at bytes))
+unfolding ops_at
+ops_again ops bytes fit =
+    let count : List ℕ = big_bytes 4 (length ops) in
+    let body : List ℕ = flat_map op ops in
+    let m : ℕ = 0 + length count in
+    let few : ltb 4096 (length ops) ≡ false = le-ltb _ _ fit.0 in (
+      m + length body,
+      ap (λ (l : List ℕ). ops_at (rest_of 0 l)) (append_assoc count body bytes)
+          ∙ ap (λ (r : Result (ℕ × Rest) CodecFault). r >>= λ n. cond (ltb 4096 n.0) (Err (BadLength 0)) (repeated n.0 op_at n.1)) ((number_codec 4 (2 ^ 32) wide4).again (length ops) 0 (body ++ bytes) (omega (arith, fit.0)))
+          ∙ ap (λ (b : Bool). cond b (Err (BadLength 0)) (repeated (length ops) op_at (rest_of m (body ++ bytes)))) few
+          ∙ all_again op_codec ops m bytes fit.1,
+    )
+
+pub payload_takes : (bytes : List ℕ) (ops : List Op) → IsBytes bytes → decoded bytes ≡ Ok ops → (payload ops ≡ bytes) × OpsFit ops
+unfolding decoded
+payload_takes bytes ops fits e =
+    let p = bind_ok (ops_at (rest_of 0 bytes)) (λ x. cond (eqb (length x.1.bytes) 0) (Ok x.0) (Err (Trailing x.1.at))) ops e in
+    let x : List Op × Rest = p.0 in
+    let w = test_ok (eqb (length x.1.bytes) 0) (Trailing x.1.at) x.0 ops p.1.1 in
+    let t : Takes payload OpsFit (rest_of 0 bytes) x = ops_take (rest_of 0 bytes) x fits p.1.0 in
+    let nothing : x.1.bytes ≡ [] = nil_from_length x.1.bytes (eqb-true _ _ w.0) in
+    let whole : bytes ≡ payload x.0 = t.parts ∙ ap (λ (l : List ℕ). payload x.0 ++ l) nothing ∙ append-nil (payload x.0) in
+    subst (λ (l : List Op). (payload l ≡ bytes) × OpsFit l) w.1 (sym whole, t.fit)
+
+pub payload_again : (ops : List Op) → OpsFit ops → decoded (payload ops) ≡ Ok ops
+unfolding decoded
+payload_again ops fit =
+    let w = ops_again ops [] fit in
+    ap decoded (sym (append-nil (payload ops)))
+    ∙ ap (λ (r : Result (List Op × Rest) CodecFault). r >>= λ x. cond (eqb (length x.1.bytes) 0) (Ok x.0) (Err (Trailing x.1.at))) w.1
+
+pub payload_one : (xs ys : List Op) → OpsFit xs → OpsFit ys → payload xs ≡ payload ys → xs ≡ ys
+payload_one xs ys fx fy e = ok_is xs ys (sym (payload_again xs fx) ∙ ap decoded e ∙ payload_again ys fy)

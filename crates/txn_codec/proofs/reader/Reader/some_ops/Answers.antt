@@ -1,0 +1,11 @@
+use Rattle.std.proofs.Common.{◌≡◌, ◌++◌, ◌∷◌, [], List, Result, ap, sym, ◌∙◌}
+use Rattle.fs_model.specs.declared.op.Op.{Op}
+use Rattle.txn_codec.specs.Reading.{op_at, repeated}
+use Rattle.txn_codec.proofs.Loop.{with_front, goes_on}
+use Rattle.txn_codec.proofs.reader.Reader.some_ops.Goals as goal
+
+pub loop-preserved : goal.loop-preserved
+loop-preserved c =
+    rw c.in_ok-push.ensures.items
+    (goes_on op_at c.loop.ops.items c.args.count c.loop.counter c.loop.self c.in_ok-op.field-0 c.op.new.self (repeated c.args.count op_at c.args.self.now)
+    c.loop-test.true c.in_ok-op.ensures c.loop.invariant)
