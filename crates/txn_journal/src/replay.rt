@@ -1,0 +1,90 @@
+//! The transactions that a ring holds, applied one after another.
+ghost use Rattle.std.specs.Prelude.{◌≡◌, ◌≢◌, ◌≤◌, ℕ, List, true, Ok, Err, OnOk, IfOk, IfErr, IsErrOf};
+ghost use Rattle.std.specs.List.{AllByRecursion, list_any};
+ghost use Rattle.std.specs.FinMap as map;
+ghost use Rattle.fault_count.specs.Counted.{Counted};
+ghost use Rattle.fs_model.specs.Check.{IsWithinLimits, too_big};
+ghost use Rattle.fs_model.specs.Rows.{fold_ops};
+ghost use Rattle.ring_frame.specs.Frame.{Entry};
+ghost use Rattle.ring_images.specs.Held.{readable};
+ghost use Rattle.ring_journal.specs.State.{Loaded, Ended};
+ghost use Rattle.txn_journal.specs.Mount.{applied, replayed};
+
+use crate::MountFault;
+use dev_api::Device;
+use fs_model::{Op, PlainObjects};
+use ring_journal::{Ring, RingFault, Stored};
+use std::alloc::{AllocError, Global};
+use txn_codec::{CodecFault, decode_txn};
+
+// Applies operations in turn.
+fn apply_ops(objects: &mut PlainObjects, ops: &[Op]) -> Result<(), AllocError>
+    requires { AllByRecursion IsWithinLimits ops.now }
+    ensures { OnOk result (objects.new ≡ fold_ops objects.old ops.now) }
+{
+    for op in ops {
+        objects.apply(op)?;
+    }
+    Ok(())
+}
+
+// Whether a quantity of one of these is above its limit.
+fn is_any_too_big(ops: &[Op]) -> bool
+    ensures { result ≡ list_any too_big ops.now }
+{
+    ops.iter().any(|op| op.is_too_big())
+}
+
+// Applies the transaction of an entry.
+fn apply_stored(
+    alloc: Global,
+    objects: &mut PlainObjects,
+    stored: &Stored,
+) -> Result<(), MountFault>
+    ensures ok { OnOk result ((epoch : ℕ) → applied objects.old (record { seq = stored.now.seq; epoch = epoch; payload = stored.now.payload }) ≡ Ok objects.new) }
+    ensures bad { IfErr result (λ fault. fault ≢ MountFault.Memory → (epoch : ℕ) → applied objects.old (record { seq = stored.now.seq; epoch = epoch; payload = stored.now.payload }) ≡ Err fault) }
+    ensures not_the_device { IfErr result (λ fault. fault ≢ MountFault.Device) }
+{
+    let bad = MountFault::BadEntry { seq: stored.seq };
+    let txn = match decode_txn(alloc, stored.payload.slice()) {
+        Ok(txn) => txn,
+        Err(CodecFault::Memory) => return Err(MountFault::Memory),
+        Err(_) => return Err(bad),
+    };
+    if is_any_too_big(txn.ops.slice()) {
+        return Err(bad);
+    }
+    apply_ops(objects, txn.ops.slice())?;
+    Ok(())
+}
+
+/// Applies all transactions that a loaded ring holds, from no objects on, an entry at a time.
+pub fn replay<D: Device>(
+    alloc: Global,
+    ring: &mut Ring,
+    dev: &mut D,
+) -> Result<PlainObjects, MountFault>
+    requires extent { D.extent dev.old ≡ ring.old.head.size }
+    requires loaded { D.tells ≡ true → Loaded ring.old (D.disk dev.old) }
+    requires untold { ring.old.count ≡ 0 }
+    ensures ok { D.tells ≡ true → IfOk result (λ objects. replayed map.empty (readable (D.disk dev.old).stable) ≡ Ok objects) }
+    ensures bad { D.tells ≡ true → IfErr result (λ fault. fault ≢ MountFault.Memory → fault ≢ MountFault.Device → replayed map.empty (readable (D.disk dev.old).stable) ≡ Err fault) }
+    ensures ended { D.tells ≡ true → OnOk result (Ended ring.new (D.disk dev.new)) }
+    ensures head { ring.new.head ≡ ring.old.head }
+    ensures disk { D.tells ≡ true → D.disk dev.new ≡ D.disk dev.old }
+    ensures past { D.tells ≡ true → D.past dev.new ≡ D.past dev.old }
+    ensures extent { D.extent dev.new ≡ D.extent dev.old }
+    ensures faults { D.faults dev.old ≤ D.faults dev.new }
+    ensures cause { IsErrOf result MountFault.Device → Counted (D.faults dev.old) (D.faults dev.new) }
+{
+    let mut objects = PlainObjects::new(alloc);
+    loop {
+        let stored = match ring.next(alloc, dev) {
+            Ok(Some(stored)) => stored,
+            Ok(None) => return Ok(objects),
+            Err(RingFault::Dev) => return Err(MountFault::Device),
+            Err(_) => return Err(MountFault::Memory),
+        };
+        apply_stored(alloc, &mut objects, &stored)?;
+    }
+}
