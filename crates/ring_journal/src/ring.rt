@@ -147,6 +147,7 @@ impl Ring {
         ensures more { D.tells ≡ true → IfOk result (λ o. IfSome o (λ stored. Loaded self.new (D.disk dev.new))) }
         ensures ended { D.tells ≡ true → IfOk result (λ o. IfNone o (Ended self.new (D.disk dev.new))) }
         ensures number { IfOk result (λ o. IfSome o (λ stored. (stored.seq ≡ self.old.head.seq + self.old.count) × (self.new.count ≡ self.old.count + 1))) }
+        ensures last { self.new.head.seq + self.new.count ≤ 2 ^ 63 }
         ensures at_end { IfOk result (λ o. IfNone o (self.new ≡ self.old)) }
         ensures again { OnErr result (self.new ≡ self.old) }
         ensures head { self.new.head ≡ self.old.head }
@@ -180,6 +181,7 @@ impl Ring {
         requires most { seq ≤ 2 ^ 63 }
         ensures head { D.tells ≡ true → OnOk result (self.new.head ≡ next_head self.old seq (readable (D.disk dev.old).stable)) }
         ensures done { D.tells ≡ true → OnOk result (NowHolds self.new (from seq (readable (D.disk dev.old).stable)) (from seq (readable (D.disk dev.old).stable)) (D.disk dev.new)) }
+        ensures size { self.new.head.size ≡ self.old.head.size }
         ensures settled { D.tells ≡ true → OnOk result (IsSettled (D.disk dev.new)) }
         ensures crash { D.tells ≡ true → Keeps (LeavesEither self.old.head (readable (D.disk dev.old).stable) (readable (D.disk dev.old).stable) (next_head self.old seq (readable (D.disk dev.old).stable)) (from seq (readable (D.disk dev.old).stable))) (D.disk dev.new) (D.past dev.old) (D.past dev.new) }
         ensures same { OnErr result (self.new ≡ self.old) }

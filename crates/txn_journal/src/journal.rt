@@ -11,15 +11,13 @@ ghost use Rattle.txn_journal.specs.History.{History, new_history, end_of, more, 
 ghost use Rattle.txn_journal.specs.Held.{Holds, Spell, AreShort, needs, last_of, contents_of, freshly, with_more};
 
 use crate::replay::replay;
+use crate::steps::{NO_FSID, append_all, begin, load};
 use crate::{MakeFault, MountFault, WriteFault};
 use dev_api::Device;
 use fs_model::{Blob, PlainObjects};
-use ring_journal::{Ring, RingFault};
+use ring_journal::{Ring, RingFault, made_law};
 use std::alloc::Global;
 use std::marker::Model;
-
-/// The fsid of the journal of a store that has no other.
-const NO_FSID: [u8; 16] = [0; 16];
 
 /// A journal that was mounted, with what it knows of its device.
 #[derive(Drop)]
@@ -92,6 +90,7 @@ impl Journal {
         if !is_size(size) {
             return Err(MakeFault::DeviceSize { size });
         }
+        made_law();
         match Ring::make(dev, &NO_FSID) {
             Ok(()) => Ok(()),
             Err(RingFault::Dev) => Err(MakeFault::Device),
@@ -149,9 +148,9 @@ impl Journal {
         ensures cause { IsErrOf result WriteFault.Device → Counted (D.faults dev.old) (D.faults dev.new) }
     {
         append_all(&mut self.ring, alloc, dev, payloads)?;
-        match self.ring.sync(dev) {
-            Ok(()) => Ok(()),
-            Err(_) => Err(WriteFault::Device),
-        }
+        let Ok(()) = self.ring.sync(dev) else {
+            return Err(WriteFault::Device);
+        };
+        Ok(())
     }
 }

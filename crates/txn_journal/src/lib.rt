@@ -9,9 +9,8 @@
 mod fault;
 mod journal;
 mod replay;
+mod steps;
 
 pub use fault::{MakeFault, MountFault, WriteFault};
 pub use journal::{Journal, MountedJournal};
 
-#[cfg(test)]
-mod tests;

@@ -8,12 +8,12 @@ ghost use Rattle.fs_model.specs.Rows.{fold_ops};
 ghost use Rattle.ring_frame.specs.Frame.{Entry};
 ghost use Rattle.ring_images.specs.Held.{readable};
 ghost use Rattle.ring_journal.specs.State.{Loaded, Ended};
-ghost use Rattle.txn_journal.specs.Mount.{applied, replayed};
+ghost use Rattle.txn_journal.specs.Mount.{applied, replayed, entry_fault_of};
 
 use crate::MountFault;
 use dev_api::Device;
 use fs_model::{Op, PlainObjects};
-use ring_journal::{Ring, RingFault, Stored};
+use ring_journal::{Ring, RingFault};
 use std::alloc::{AllocError, Global};
 use txn_codec::{CodecFault, decode_txn};
 
@@ -35,24 +35,36 @@ fn is_any_too_big(ops: &[Op]) -> bool
     ops.iter().any(|op| op.is_too_big())
 }
 
+// What a payload's fault is to a mount.
+fn entry_fault(fault: CodecFault, seq: u64) -> MountFault
+    ensures { result ≡ entry_fault_of seq fault }
+{
+    match fault {
+        CodecFault::Memory => MountFault::Memory,
+        CodecFault::Short { .. }
+        | CodecFault::BadTag { .. }
+        | CodecFault::BadLength { .. }
+        | CodecFault::Trailing { .. } => MountFault::BadEntry { seq },
+    }
+}
+
 // Applies the transaction of an entry.
-fn apply_stored(
+fn apply_entry(
     alloc: Global,
     objects: &mut PlainObjects,
-    stored: &Stored,
+    seq: u64,
+    payload: &[u8],
 ) -> Result<(), MountFault>
-    ensures ok { OnOk result ((epoch : ℕ) → applied objects.old (record { seq = stored.now.seq; epoch = epoch; payload = stored.now.payload }) ≡ Ok objects.new) }
-    ensures bad { IfErr result (λ fault. fault ≢ MountFault.Memory → (epoch : ℕ) → applied objects.old (record { seq = stored.now.seq; epoch = epoch; payload = stored.now.payload }) ≡ Err fault) }
+    ensures ok { OnOk result ((epoch : ℕ) → applied objects.old (record { seq = seq; epoch = epoch; payload = payload.now }) ≡ Ok objects.new) }
+    ensures bad { IfErr result (λ fault. fault ≢ MountFault.Memory → (epoch : ℕ) → applied objects.old (record { seq = seq; epoch = epoch; payload = payload.now }) ≡ Err fault) }
     ensures not_the_device { IfErr result (λ fault. fault ≢ MountFault.Device) }
 {
-    let bad = MountFault::BadEntry { seq: stored.seq };
-    let txn = match decode_txn(alloc, stored.payload.slice()) {
+    let txn = match decode_txn(alloc, payload) {
         Ok(txn) => txn,
-        Err(CodecFault::Memory) => return Err(MountFault::Memory),
-        Err(_) => return Err(bad),
+        Err(fault) => return Err(entry_fault(fault, seq)),
     };
     if is_any_too_big(txn.ops.slice()) {
-        return Err(bad);
+        return Err(MountFault::BadEntry { seq });
     }
     apply_ops(objects, txn.ops.slice())?;
     Ok(())
@@ -85,6 +97,8 @@ pub fn replay<D: Device>(
             Err(RingFault::Dev) => return Err(MountFault::Device),
             Err(_) => return Err(MountFault::Memory),
         };
-        apply_stored(alloc, &mut objects, &stored)?;
+        if let Err(fault) = apply_entry(alloc, &mut objects, stored.seq, stored.payload.slice()) {
+            return Err(fault);
+        }
     }
 }
