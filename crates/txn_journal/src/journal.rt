@@ -111,12 +111,18 @@ impl Journal {
         ensures faults { D.faults dev.old ≤ D.faults dev.new }
         ensures cause { IsErrOf result MountFault.Device → Counted (D.faults dev.old) (D.faults dev.new) }
     {
-        let mut ring = load(dev)?;
+        let mut ring = match load(dev) {
+            Ok(ring) => ring,
+            Err(fault) => return Err(fault),
+        };
         let start = ring.start_seq();
         if start > 1 {
             return Err(MountFault::JournalGap { start, committed: 0 });
         }
-        let objects = replay(alloc, &mut ring, dev)?;
+        let objects = match replay(alloc, &mut ring, dev) {
+            Ok(objects) => objects,
+            Err(fault) => return Err(fault),
+        };
         begin(&mut ring, dev)?;
         let size = dev.size() - 8192;
         Ok(MountedJournal {
