@@ -1,6 +1,7 @@
 -- The collections after operations.
-use Rattle.std.proofs.Common.{◌≡◌, Bool, true, false, cond, ◌||◌, Option, Some, is_some, List, [], ◌∷◌, refl, sym, ap, ◌∙◌}
+use Rattle.std.proofs.Common.{◌≡◌, Bool, true, false, cond, ◌||◌, Option, Some, is_some, List, [], ◌∷◌, map as map_list, refl, sym, ap, ◌∙◌}
 use Rattle.std.specs.FinMap as map
+use Rattle.std.specs.FinMap.Entries.{is_some-find}
 use Rattle.std.specs.FinSet as set
 use Rattle.std.specs.Ordering.{eq_by_cmp}
 use Rattle.std.specs.Cmp.{eq_by_cmp_equiv}
@@ -8,7 +9,7 @@ use Rattle.fs_names.specs.declared.coll.Coll.{Coll}
 use Rattle.fs_names.specs.Order.{coll_cmp, coll_cmp_total, coll_cmp-IsAntisymmetric}
 use Rattle.fs_model.specs.declared.op.Op.{Op}
 use Rattle.fs_model.specs.declared.op.Op.TheVariants.{MkColl, Touch, Write}
-use Rattle.fs_model.specs.Objects.{Objects}
+use Rattle.fs_model.specs.Objects.{Objects, Shelf}
 use Rattle.fs_model.specs.Colls.{colls_of}
 use Rattle.fs_model.specs.Check.{op_colls, colls_after}
 use Rattle.fs_model.specs.Rows.{row, fold_ops}
@@ -17,6 +18,14 @@ use Rattle.fs_model.proofs.Cells.{tie, there-with_object}
 pub contains-colls_of : (O : Objects) (q : Coll) → set.contains (colls_of O) q ≡ map.contains_key O q
 unfolding colls_of
 contains-colls_of O q = set.contains-from_list coll_cmp_total (map.keys O) q ∙ sym (map.contains_key-keys O q)
+
+-- the collections of a map that is made of a list
+pub colls-entries : (es : List (Coll × Shelf)) → set.from_list (map_list (λ e. e.0) es) ≡ colls_of (map.from_entries es)
+colls-entries es = set.same_set coll_cmp_total coll_cmp-IsAntisymmetric _ _ (λ q.
+    set.contains-from_list coll_cmp_total (map_list (λ e. e.0) es) q
+    ∙ sym (is_some-find coll_cmp q es)
+    ∙ ap is_some (sym (map.get-from_entries coll_cmp_total es q))
+    ∙ sym (contains-colls_of (map.from_entries es) q))
 
 alike : (O P : Objects) → ((q : Coll) → map.contains_key O q ≡ map.contains_key P q) → colls_of O ≡ colls_of P
 alike O P e = set.same_set coll_cmp_total coll_cmp-IsAntisymmetric _ _ (λ q. contains-colls_of O q ∙ e q ∙ sym (contains-colls_of P q))

@@ -52,7 +52,7 @@ impl CollList {
         })
     }
 
-    fn insert(&mut self, c: Coll) -> Result<(), AllocError>
+    pub(crate) fn insert(&mut self, c: Coll) -> Result<(), AllocError>
         ensures ok { OnOk result (self.new ≡ set.insert self.old c) }
         ensures err { OnErr result (self.new ≡ self.old) }
     {

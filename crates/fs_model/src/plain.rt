@@ -7,8 +7,9 @@ ghost use Rattle.fs_model.specs.Plain.{object_of};
 ghost use Rattle.fs_model.specs.Rows.{row, written};
 ghost use Rattle.fs_model.specs.Check.{IsWithinLimits};
 ghost use Rattle.fs_model.specs.Listing.{IsEachOnce, shelf_of};
+ghost use Rattle.fs_model.specs.Colls.{colls_of};
 
-use crate::{Blob, OidList, Op, PairList, PlainObject};
+use crate::{Blob, CollList, OidList, Op, PairList, PlainObject};
 use fs_names::{Coll, Oid};
 use std::alloc::{AllocError, Global};
 use std::collections::BTreeMap;
@@ -159,6 +160,16 @@ impl PlainObjects {
         ensures { result ≡ map.contains_key self.now c.now }
     {
         self.shelves.contains_key(c)
+    }
+
+    pub fn colls(&self) -> Result<CollList, AllocError>
+        ensures { IfOk result (λ colls. colls ≡ colls_of self.now) }
+    {
+        let mut colls = CollList::new(self.alloc);
+        for c in self.shelves.keys() {
+            colls.insert(*c)?;
+        }
+        Ok(colls)
     }
 
     /// The object, none where it or its collection is missing.

@@ -220,6 +220,20 @@ fn each_object_of_a_collection_is_named_once(rt: HostRuntime) -> Result<(), Fail
     Ok(())
 }
 
+#[test]
+fn the_collections_that_were_made_are_told(rt: HostRuntime) -> Result<(), Fail> {
+    let alloc = rt.alloc();
+    let mut objects = PlainObjects::new(alloc);
+    for seed in [2, 0, 2] {
+        apply(&mut objects, &make(seed))?;
+    }
+    let colls = objects.colls()?;
+    for (seed, want) in [(0, true), (1, false), (2, true)] {
+        assert_eq!(rt; colls.has(&group(seed)), want, "collection {seed}");
+    }
+    Ok(())
+}
+
 fn is_below(alloc: Global, a: &[u8], b: &[u8]) -> Result<bool, AllocError> {
     let a = Blob::new(alloc, a)?;
     let b = Blob::new(alloc, b)?;

@@ -183,6 +183,20 @@ fn each_answer_prints_its_lines(rt: HostRuntime) -> Result<(), Fail> {
             },
             "refused op 4096 too many\n",
         ),
+        (
+            Answer::TooLarge {
+                need: 20_480,
+                size: 16_384,
+            },
+            "refused too large 20480 16384\n",
+        ),
+        (
+            Answer::RingFull {
+                need: 16_384,
+                free: 12_288,
+            },
+            "refused ring full 16384 12288\n",
+        ),
         (Answer::QueueFull, "refused queue full\n"),
         (Answer::NumbersSpent, "refused numbers spent\n"),
         (Answer::Drained { acked: 2, seq: 2 }, "ack 2\ndrained 2\n"),
