@@ -8,9 +8,11 @@
 
 mod fault;
 mod journal;
+mod laws;
 mod replay;
 mod steps;
 
 pub use fault::{MakeFault, MountFault, WriteFault};
 pub use journal::{Journal, MountedJournal};
+pub use laws::holds_law;
 
