@@ -104,6 +104,7 @@ impl Journal {
         ensures ok { D.tells ≡ true → IfOk result (λ m. mounted (D.disk dev.old).reads ≡ Ok (contents_of m.journal m.objects)) }
         ensures refused { D.tells ≡ true → IfErr result (λ fault. fault ≢ MountFault.Device → fault ≢ MountFault.Memory → mounted (D.disk dev.old).reads ≡ Err fault) }
         ensures holds { D.tells ≡ true → IfOk result (λ m. Holds (freshly (contents_of m.journal m.objects)) m.journal (D.disk dev.new)) }
+        ensures last { IfOk result (λ m. last_of m.journal < 2 ^ 63) }
         ensures size { IfOk result (λ m. m.journal.head.size ≡ D.extent dev.new) }
         ensures crash { D.tells ≡ true → IsSound (D.disk dev.old) (D.disk dev.old).reads → (h : History) (low : ℕ) → LeavesPrefix h low (D.disk dev.old)
             → Keeps (LeavesPrefix h low) (D.disk dev.new) (D.past dev.old) (D.past dev.new) }

@@ -65,6 +65,7 @@ pub fn begin<D: Device>(ring: &mut Ring, dev: &mut D) -> Result<(), MountFault>
     requires unspent { IsUnspent ring.old.head }
     ensures head { D.tells ≡ true → OnOk result (ring.new.head ≡ next_head ring.old 1 (readable (D.disk dev.old).stable)) }
     ensures done { D.tells ≡ true → OnOk result (NowHolds ring.new (from 1 (readable (D.disk dev.old).stable)) (from 1 (readable (D.disk dev.old).stable)) (D.disk dev.new)) }
+    ensures last { OnOk result (ring.new.head.seq + ring.new.count ≤ 2 ^ 63) }
     ensures size { OnOk result (ring.new.head.size ≡ ring.old.head.size) }
     ensures crash { D.tells ≡ true → Keeps (LeavesEither ring.old.head (readable (D.disk dev.old).stable) (readable (D.disk dev.old).stable) (next_head ring.old 1 (readable (D.disk dev.old).stable)) (from 1 (readable (D.disk dev.old).stable))) (D.disk dev.new) (D.past dev.old) (D.past dev.new) }
     ensures only { IfErr result (λ fault. (fault ≡ MountFault.Device) ⊎ (fault ≡ MountFault.Memory)) }
