@@ -1,11 +1,12 @@
 //! FileStore: an object store that keeps each object as a file, with a journal before it.
 //!
-//! So far objects are kept in memory for the length of one script.
+//! So far the journal is the store: a mount replays it into objects in memory.
 #![tactic(auto)]
 
 mod command;
 mod hash_order;
 mod page;
+mod refusal;
 mod run;
 mod status;
 mod step;
@@ -13,8 +14,10 @@ mod store;
 #[cfg(test)]
 mod tests;
 
+use command::read_command;
+use dev_edge::{EdgeFault, RealDevice};
 use io_edge::{RealSink, RealSource, Text, write_all};
-use run::{MEMORY_LINE, USAGE_LINE, run};
+use run::{DEVICE_LINE, MEMORY_LINE, USAGE_LINE, run};
 use status::Status;
 use std::alloc::AllocError;
 use std::io::ErrorKind;
@@ -22,33 +25,61 @@ use std::process::ExitCode;
 use std::rt::Env;
 use std::{env, io};
 
-/// The words behind the program's name, ROOT and JOURNAL. These two aren't used yet.
-fn words(rt: &(impl Env + AllocGlobal)) -> io::Result<Vec<Text>> {
-    let mut words = Vec::new(rt.alloc());
-    for word in env::args(rt)?.skip(3) {
-        words.push(Text::from_vec(word.into_bytes()))?;
-    }
-    Ok(words)
+/// The words of the command line, behind ROOT, which isn't used yet.
+struct Arguments {
+    journal: String,
+    words: Vec<Text>,
 }
 
-/// Runs the command of the command line over standard input and output.
-fn status_of<R: Env + AllocGlobal + Input + Print + Clone + Drop>(
+/// Reads the command line. None where it lacks ROOT or JOURNAL.
+fn read_arguments(rt: &(impl Env + AllocGlobal)) -> io::Result<Option<Arguments>> {
+    let mut args = env::args(rt)?.skip(2);
+    let Some(journal) = args.next() else {
+        return Ok(None);
+    };
+    let mut words = Vec::new(rt.alloc());
+    for word in args {
+        words.push(Text::from_vec(word.into_bytes()))?;
+    }
+    Ok(Some(Arguments { journal, words }))
+}
+
+/// Runs the command of the command line over standard input and output and the file of the journal.
+fn status_of<R: Env + AllocGlobal + Files + Input + Print + Clone + Drop>(
     rt: &R,
 ) -> Result<Status, AllocError> {
     let mut source = RealSource::new(rt.clone()?);
     let mut sink = RealSink::new(rt.clone()?);
-    match words(rt) {
-        Ok(words) => Ok(run(rt.alloc(), &words, &mut source, &mut sink)),
+    let arguments = match read_arguments(rt) {
+        Ok(Some(arguments)) if read_command(&arguments.words).is_some() => arguments,
         Err(error) if error.kind() == ErrorKind::OutOfMemory => {
             let _ = write_all(&mut sink, MEMORY_LINE.as_bytes());
-            Ok(Status::MEMORY)
+            return Ok(Status::MEMORY);
         }
-        // Words that aren't text are no command.
-        Err(_) => {
+        // Words that aren't text are no command. No file is made for words that aren't one.
+        Ok(_) | Err(_) => {
             let _ = write_all(&mut sink, USAGE_LINE.as_bytes());
-            Ok(Status::USAGE)
+            return Ok(Status::USAGE);
         }
-    }
+    };
+    let mut device = match RealDevice::at(rt.clone()?, arguments.journal.as_str()) {
+        Ok(device) => device,
+        Err(EdgeFault::Outside) => {
+            let _ = write_all(&mut sink, DEVICE_LINE.as_bytes());
+            return Ok(Status::DEVICE);
+        }
+        Err(EdgeFault::Memory) => {
+            let _ = write_all(&mut sink, MEMORY_LINE.as_bytes());
+            return Ok(Status::MEMORY);
+        }
+    };
+    Ok(run(
+        rt.alloc(),
+        &arguments.words,
+        &mut source,
+        &mut device,
+        &mut sink,
+    ))
 }
 
 fn main(rt: HostRuntime) -> ExitCode {
