@@ -1,55 +1,208 @@
 -- What a store keeps true, from call to call.
-use Rattle.std.proofs.Common.{◌≡◌, ℕ, ◌+◌, ◌<◌, ◌≤◌, List, [], ◌∷◌, ◌++◌, refl, sym, ◌∙◌, ap, subst, arith, append_assoc}
+use Rattle.std.proofs.Common.{◌≡◌, ◌≢◌, ◌⊎◌, ⊎_elim, ℕ, ◌+◌, ◌-◌, ◌<◌, ◌≤◌, ◌^◌, Bool, true, false, cond, List, [], ◌∷◌, ◌++◌, length, map, refl, sym, ◌∙◌, ap, subst, arith, append_assoc}
 use mathlib.Core.List.{append-nil}
-use Rattle.std.specs.Prelude.{None}
-use Rattle.std.specs.List.{AllByRecursion, flat_map, fold}
+use Rattle.std.specs.Prelude.{Option, None, Some, nat_lt, nat_le, ◌||◌}
+use Rattle.std.specs.List.{AllByRecursion, flat_map, fold, sum_by}
+use Rattle.std.proofs.lemmas.Bool.{ltb-false, leb-false}
 use Rattle.std.proofs.lemmas.Grind.{flat_map-append}
+use Rattle.std.proofs.lemmas.List.{map-append, length-map, length-append}
 use Rattle.std.proofs.lemmas.List.Sums.{fold-append}
-use Rattle.std.specs.FinMap as map
-use Rattle.std.specs.FinSet as set
 use Rattle.fs_model.specs.declared.op.Op.{Op}
 use Rattle.fs_model.specs.declared.op.Txn.{Txn}
+use Rattle.fs_model.specs.declared.op.Why.{Why}
 use Rattle.fs_model.specs.Objects.{Objects}
 use Rattle.fs_model.specs.Colls.{CollSet, colls_of}
 use Rattle.fs_model.specs.Rows.{fold_ops}
 use Rattle.fs_model.specs.Check.{op_colls, colls_after, txn_refusal, IsWithinLimits}
-use Rattle.fs_model.proofs.Colls.{colls_of-empty, fold-colls}
+use Rattle.fs_model.proofs.Colls.{fold-colls}
 use Rattle.fs_model.proofs.Refusals.{within_limits}
-use Rattle.fs_script.specs.Answers.{Session, waiting_ops, colls_queued, last_number, new_session, after_drain}
-use Rattle.filestore_cli.specs.Kept.{IsKept}
+use Rattle.ring_frame.specs.Frame.{need}
+use Rattle.ring_journal.specs.State.{State, free_of}
+use Rattle.txn_codec.specs.Spelling.{payload, OpsFit}
+use Rattle.txn_journal.specs.Held.{IsWritable, Spell, AreShort, needs, last_of, with_more}
+use Rattle.fs_script.specs.declared.answer.Answer.{Answer}
+use Rattle.fs_script.specs.declared.answer.Answer.TheVariants as answers
+use Rattle.fs_script.specs.Answers.{Session, waiting_ops, colls_queued, last_number, need_of, needs_of, is_too_large, queue_limit, free_bytes, room_answer, refused_or, queue_answer, queued_if, after_queue, after_drain}
+use Rattle.filestore_cli.specs.Kept.{Store, IsKept, ops_of, session_on}
+use Rattle.filestore_cli.specs.Rooms.{room_for}
 
-pub kept_new : (O : Objects) (waiting : List Txn) (S : CollSet) → O ≡ map.empty → waiting ≡ [] → S ≡ set.empty
-    → IsKept (record { objects = O; waiting = waiting; last = 0 }) S
-kept_new O waiting S o w s =
-    subst (λ (ws : List Txn). IsKept (record { objects = O; waiting = ws; last = 0 }) S) (sym w)
-    (record { colls_are = s ∙ sym colls_of-empty ∙ ap colls_of (sym o); fit = tt; numbers = omega arith })
+abbrev pub store_with : State → Objects → List Txn → ℕ → Store
+store_with s O waiting last = record { session = session_on s O waiting last; ring = s }
+
+pub kept_new : (s : State) (O : Objects) (waiting : List Txn) (payloads : List (List ℕ)) (S : CollSet) (last : ℕ) → waiting ≡ [] → payloads ≡ [] → S ≡ colls_of O
+    → last ≡ last_of s → last + 1 ≡ s.head.seq + s.count → last < 2 ^ 63 → IsKept (store_with s O waiting last) payloads 0 S
+kept_new s O waiting payloads S last w p colls is one small =
+    subst (λ (ws : List Txn). IsKept (store_with s O ws last) payloads 0 S) (sym w)
+    (subst (λ (ps : List (List ℕ)). IsKept (store_with s O [] last) ps 0 S) (sym p) (record {
+      colls_are = colls;
+      payloads_are = refl;
+      writable = tt;
+      short = tt;
+      reserved_is = refl;
+      room = omega arith;
+      first = omega (arith, one);
+      numbers = omega (arith, is);
+      limit = omega (arith, small);
+    }))
 
 all_append : {X : Type 0} (P : X → Type 0) (xs ys : List X) → AllByRecursion P xs → AllByRecursion P ys → AllByRecursion P (xs ++ ys)
 all_append P [] ys h k = k
 all_append P (x ∷ xs) ys h k = (h.0, all_append P xs ys h.1 k)
 
--- a transaction is queued
-pub kept_queued : (O : Objects) (old new : List Txn) (S T : CollSet) (last next : ℕ) (txn : Txn) → IsKept (record { objects = O; waiting = old; last = last }) S
-    → txn_refusal S txn.ops ≡ None → T ≡ colls_after S txn.ops → last < last_number → next ≡ last + 1 → new ≡ old ++ txn ∷ []
-    → IsKept (record { objects = O; waiting = new; last = next }) T
-kept_queued O old new S T last next txn kept accepted after room up more =
-    let ops : waiting_ops (record { objects = O; waiting = old ++ txn ∷ []; last = next }) ≡ waiting_ops (record { objects = O; waiting = old; last = last }) ++ txn.ops =
-    flat_map-append (λ (t : Txn). t.ops) old (txn ∷ []) ∙ ap (λ (l : List Op). flat_map (λ (t : Txn). t.ops) old ++ l) (append-nil txn.ops) in
-    subst (λ (ws : List Txn). IsKept (record { objects = O; waiting = ws; last = next }) T) (sym more) (record {
-      colls_are =
-          after ∙ ap (λ (s : CollSet). colls_after s txn.ops) kept.colls_are
-          ∙ sym (fold-append op_colls (colls_of O) (waiting_ops (record { objects = O; waiting = old; last = last })) txn.ops)
-          ∙ ap (colls_after (colls_of O)) (sym ops);
-      fit = all_append (λ (t : Txn). AllByRecursion IsWithinLimits t.ops) old (txn ∷ []) kept.fit (within_limits S txn.ops accepted, tt);
-      numbers = omega arith;
-    })
+needs-append : (xs ys : List (List ℕ)) → needs (xs ++ ys) ≡ needs xs + needs ys
+needs-append [] ys = let z : needs ys ≡ 0 + needs ys = omega arith in z
+needs-append (x ∷ xs) ys = omega (arith, needs-append xs ys)
 
--- all that waited is applied
-pub kept_drained : (s : Session) (S : CollSet) (O : Objects) (waiting : List Txn) → IsKept s S → O ≡ fold_ops s.objects (waiting_ops s) → waiting ≡ []
-    → IsKept (record { objects = O; waiting = waiting; last = s.last }) S
-kept_drained s S O waiting kept o w =
-    subst (λ (ws : List Txn). IsKept (record { objects = O; waiting = ws; last = s.last }) S) (sym w) (record {
-      colls_are = kept.colls_are ∙ sym (fold-colls s.objects (waiting_ops s)) ∙ ap colls_of (sym o);
-      fit = tt;
-      numbers = kept.numbers;
-    })
+-- ---- a transaction is queued
+
+pub kept_queued : (s : State) (O : Objects) (old new : List Txn) (ps qs : List (List ℕ)) (S T : CollSet) (last next reserved more : ℕ) (txn : Txn) (bytes : List ℕ)
+    → IsKept (store_with s O old last) ps reserved S → txn_refusal S txn.ops ≡ None → T ≡ colls_after S txn.ops → bytes ≡ payload txn.ops → OpsFit txn.ops
+    → reserved + need (length bytes) ≤ free_of s → length bytes < 2 ^ 32 → last < last_number → next ≡ last + 1 → new ≡ old ++ txn ∷ [] → qs ≡ ps ++ bytes ∷ []
+    → more ≡ reserved + need (length bytes) → IsKept (store_with s O new next) qs more T
+kept_queued s O old new ps qs S T last next reserved more txn bytes kept accepted after spelled fits room short limit up is are sum =
+    let ops : waiting_ops (session_on s O (old ++ txn ∷ []) next) ≡ waiting_ops (session_on s O old last) ++ txn.ops =
+        flat_map-append (λ (t : Txn). t.ops) old (txn ∷ []) ∙ ap (λ (l : List Op). flat_map (λ (t : Txn). t.ops) old ++ l) (append-nil txn.ops) in
+    let texts : ps ++ bytes ∷ [] ≡ map payload (ops_of (old ++ txn ∷ [])) =
+        ap (λ (l : List (List ℕ)). l ++ bytes ∷ []) kept.payloads_are
+        ∙ ap (λ (b : List ℕ). map payload (ops_of old) ++ b ∷ []) spelled
+        ∙ sym (map-append payload (ops_of old) (txn.ops ∷ []))
+        ∙ ap (map payload) (sym (map-append (λ (t : Txn). t.ops) old (txn ∷ []))) in
+    let size : needs (ps ++ bytes ∷ []) ≡ needs ps + need (length bytes) = let a = needs-append ps (bytes ∷ []) in omega (arith, a) in
+    let longer : length (old ++ txn ∷ []) ≡ length old + 1 = let a = length-append old (txn ∷ []) in omega (arith, a) in
+    subst (λ (ws : List Txn). IsKept (store_with s O ws next) qs more T) (sym is)
+    (subst (λ (l : List (List ℕ)). IsKept (store_with s O (old ++ txn ∷ []) next) l more T) (sym are) (record {
+      colls_are =
+          after ∙ ap (λ (c : CollSet). colls_after c txn.ops) kept.colls_are
+          ∙ sym (fold-append op_colls (colls_of O) (waiting_ops (session_on s O old last)) txn.ops)
+          ∙ ap (colls_after (colls_of O)) (sym ops);
+      payloads_are = texts;
+      writable = subst (AllByRecursion IsWritable) (sym (map-append (λ (t : Txn). t.ops) old (txn ∷ []))) (all_append IsWritable (ops_of old) (txn.ops ∷ []) kept.writable ((fits, within_limits S txn.ops accepted), tt));
+      short = all_append (λ (p : List ℕ). length p < 2 ^ 32) ps (bytes ∷ []) kept.short (short, tt);
+      reserved_is = omega (arith, sum, kept.reserved_is, size);
+      room = omega (arith, sum, room);
+      first = kept.first;
+      numbers = omega (arith, up, kept.numbers, longer);
+      limit = omega (arith, up, limit);
+    }))
+
+-- ---- all that waited is written and applied
+
+pub spelled_all : (s : State) (O : Objects) (ws : List Txn) (ps : List (List ℕ)) (last reserved : ℕ) (S : CollSet) → IsKept (store_with s O ws last) ps reserved S → Spell ps (ops_of ws)
+spelled_all s O ws ps last reserved S kept = record { are = kept.payloads_are; fit = kept.writable }
+
+within_all : (ws : List Txn) → AllByRecursion IsWritable (ops_of ws) → AllByRecursion (λ txn. AllByRecursion IsWithinLimits txn.ops) ws
+within_all [] h = tt
+within_all (w ∷ ws) h = (h.0.1, within_all ws h.1)
+
+pub kept_within : (s : State) (O : Objects) (ws : List Txn) (ps : List (List ℕ)) (last reserved : ℕ) (S : CollSet) → IsKept (store_with s O ws last) ps reserved S
+    → AllByRecursion (λ txn. AllByRecursion IsWithinLimits txn.ops) ws
+kept_within s O ws ps last reserved S kept = within_all ws kept.writable
+
+count_is : (s : State) (O : Objects) (ws : List Txn) (ps : List (List ℕ)) (last reserved : ℕ) (S : CollSet) → IsKept (store_with s O ws last) ps reserved S → length ps ≡ length ws
+count_is s O ws ps last reserved S kept = ap length kept.payloads_are ∙ length-map (ops_of ws) payload ∙ length-map ws (λ (t : Txn). t.ops)
+
+pub kept_numbers : (s : State) (O : Objects) (ws : List Txn) (ps : List (List ℕ)) (last reserved : ℕ) (S : CollSet) → IsKept (store_with s O ws last) ps reserved S
+    → last_of s + length ps < 2 ^ 63
+kept_numbers s O ws ps last reserved S kept = let n = count_is s O ws ps last reserved S kept in omega (arith, n, kept.numbers, kept.limit)
+
+pub kept_room : (s : State) (O : Objects) (ws : List Txn) (ps : List (List ℕ)) (last reserved : ℕ) (S : CollSet) → IsKept (store_with s O ws last) ps reserved S → needs ps ≤ free_of s
+kept_room s O ws ps last reserved S kept = omega (arith, kept.reserved_is, kept.room)
+
+-- the objects and the ring after it
+pub kept_drained : (s t : State) (O P : Objects) (ws new : List Txn) (ps qs : List (List ℕ)) (last reserved : ℕ) (S : CollSet) → IsKept (store_with s O ws last) ps reserved S
+    → t ≡ with_more s ps → P ≡ fold_ops O (flat_map (λ txn. txn.ops) ws) → new ≡ [] → qs ≡ [] → IsKept (store_with t P new last) qs 0 S
+kept_drained s t O P ws new ps qs last reserved S kept moved folded w q =
+    let n = count_is s O ws ps last reserved S kept in
+    let h : t.head.seq + t.count ≡ s.head.seq + (s.count + length ps) = ap (λ (u : State). u.head.seq + u.count) moved in
+    subst (λ (l : List Txn). IsKept (store_with t P l last) qs 0 S) (sym w)
+    (subst (λ (l : List (List ℕ)). IsKept (store_with t P [] last) l 0 S) (sym q) (record {
+      colls_are = kept.colls_are ∙ sym (fold-colls O (flat_map (λ (txn : Txn). txn.ops) ws)) ∙ ap colls_of (sym folded);
+      payloads_are = refl;
+      writable = tt;
+      short = tt;
+      reserved_is = refl;
+      room = omega arith;
+      first = omega (arith, h, kept.first);
+      numbers = omega (arith, h, n, kept.numbers, kept.first);
+      limit = kept.limit;
+    }))
+
+needs_from : (ws : List Txn) (n : ℕ) → fold (λ a w. a + need_of w) n ws ≡ n + needs (map payload (ops_of ws))
+unfolding need_of
+needs_from [] n = omega arith
+needs_from (w ∷ ws) n =
+    let e = needs_from ws (n + need (length (payload w.ops))) in
+    let z : n + need (length (payload w.ops)) + needs (map payload (ops_of ws)) ≡ n + (need (length (payload w.ops)) + needs (map payload (ops_of ws))) = omega arith in
+    e ∙ z
+
+needs_are : (ws : List Txn) → needs (map payload (ops_of ws)) ≡ needs_of ws
+needs_are ws = let z : needs (map payload (ops_of ws)) ≡ 0 + needs (map payload (ops_of ws)) = omega arith in z ∙ sym (needs_from ws 0)
+
+pub session_drained : (s t : State) (O P : Objects) (ws new : List Txn) (ps : List (List ℕ)) (last reserved : ℕ) (S : CollSet) → IsKept (store_with s O ws last) ps reserved S
+    → t ≡ with_more s ps → P ≡ fold_ops O (flat_map (λ txn. txn.ops) ws) → new ≡ [] → session_on t P new last ≡ after_drain (session_on s O ws last)
+session_drained s t O P ws new ps last reserved S kept moved folded w =
+    let used : t.used ≡ s.used + needs_of ws = ap (λ (u : State). u.used) moved ∙ ap (λ (n : ℕ). s.used + n) (ap needs kept.payloads_are ∙ needs_are ws) in
+    let size : t.head.size - 8192 ≡ s.head.size - 8192 = ap (λ (u : State). u.head.size - 8192) moved in
+    ap (λ (l : List Txn). session_on t P l last) w
+    ∙ ap (λ (Q : Objects). session_on t Q [] last) folded
+    ∙ ap (λ (n : ℕ). record { objects = fold_ops O (flat_map (λ (txn : Txn). txn.ops) ws); waiting = []; last = last; size = n; used = t.used }) size
+    ∙ ap (λ (n : ℕ). record { objects = fold_ops O (flat_map (λ (txn : Txn). txn.ops) ws); waiting = []; last = last; size = s.head.size - 8192; used = n }) used
+
+-- ---- what a queue answers
+
+pub room_is : (s : State) (O : Objects) (ws : List Txn) (ps : List (List ℕ)) (last reserved free : ℕ) (S : CollSet) (txn : Txn) (bytes : List ℕ) → IsKept (store_with s O ws last) ps reserved S
+    → bytes ≡ payload txn.ops → free ≡ free_of s - reserved → room_answer (session_on s O ws last) txn ≡ room_for (s.head.size - 8192) free (length ws) last (length bytes)
+unfolding is_too_large need_of
+room_is s O ws ps last reserved free S txn bytes kept spelled is =
+    let left : s.head.size - 8192 - s.used - needs_of ws ≡ free =
+        let n : reserved ≡ needs_of ws = kept.reserved_is ∙ ap needs kept.payloads_are ∙ needs_are ws in omega (arith, is, n) in
+    ap (λ (n : ℕ). room_for (s.head.size - 8192) n (length ws) last (length (payload txn.ops))) left
+    ∙ ap (λ (b : List ℕ). room_for (s.head.size - 8192) free (length ws) last (length b)) (sym spelled)
+
+pub queue_is : (s : State) (O : Objects) (ws : List Txn) (ps : List (List ℕ)) (last reserved free : ℕ) (S : CollSet) (txn : Txn) (bytes : List ℕ) (a : Answer)
+    → IsKept (store_with s O ws last) ps reserved S → txn_refusal S txn.ops ≡ None → bytes ≡ payload txn.ops → free ≡ free_of s - reserved
+    → a ≡ room_for (s.head.size - 8192) free (length ws) last (length bytes) → a ≡ queue_answer (session_on s O ws last) txn
+queue_is s O ws ps last reserved free S txn bytes a kept accepted spelled is answer =
+    answer ∙ sym (room_is s O ws ps last reserved free S txn bytes kept spelled is)
+    ∙ ap (λ (o : Option (ℕ × Why)). refused_or o (room_answer (session_on s O ws last) txn)) (sym accepted ∙ ap (λ (c : CollSet). txn_refusal c txn.ops) kept.colls_are)
+
+pub not_queued : (s : Session) (txn : Txn) (a : Answer) → ((seq : ℕ) → a ≢ answers.Queued seq) → a ≡ queue_answer s txn → s ≡ after_queue s txn
+not_queued s txn a not is = sym (same a not) ∙ ap (λ (b : Answer). queued_if b s txn) is
+  where
+    same : (b : Answer) → ((seq : ℕ) → b ≢ answers.Queued seq) → queued_if b s txn ≡ s
+    same (answers.Queued seq) never = absurd (never seq refl)
+    same (answers.RefusedOp op why) never = refl
+    same (answers.TooLarge n size) never = refl
+    same (answers.RingFull n free) never = refl
+    same answers.QueueFull never = refl
+    same answers.NumbersSpent never = refl
+    same (answers.Drained acked seq) never = refl
+    same (answers.Bytes bytes) never = refl
+    same (answers.Listed oids next) never = refl
+    same answers.Missing never = refl
+
+pub queued_is : (s : State) (O : Objects) (ws new : List Txn) (last seq : ℕ) (txn : Txn) → answers.Queued seq ≡ queue_answer (session_on s O ws last) txn → new ≡ ws ++ txn ∷ []
+    → session_on s O new seq ≡ after_queue (session_on s O ws last) txn
+queued_is s O ws new last seq txn is more =
+    ap (λ (l : List Txn). session_on s O l seq) more ∙ ap (λ (b : Answer). queued_if b (session_on s O ws last) txn) is
+
+pass : (seq : ℕ) (b : Bool) (x y : Answer) → answers.Queued seq ≢ x → answers.Queued seq ≡ cond b x y → (b ≡ false) × (answers.Queued seq ≡ y)
+pass seq true x y not e = absurd (not e)
+pass seq false x y not e = (refl, e)
+
+or_false : (a b : Bool) → (a || b) ≡ false → (a ≡ false) × (b ≡ false)
+or_false true b e = absurd (cc)
+or_false false b e = (refl, e)
+
+queued_same : (a b : ℕ) → answers.Queued a ≡ answers.Queued b → a ≡ b
+queued_same a b e = cc
+
+-- what a queued answer says of the numbers
+pub room_queued : (size free waiting last len seq : ℕ) → answers.Queued seq ≡ room_for size free waiting last len → (need len ≤ free) × (len < 2 ^ 32) × (last < last_number) × (seq ≡ last + 1)
+room_queued size free waiting last len seq e =
+    let one = pass seq (nat_lt size (need len) || nat_le (2 ^ 32) len) (answers.TooLarge (need len) size) _ (λ q. absurd (cc)) e in
+    let two = pass seq (nat_lt free (need len)) (answers.RingFull (need len) free) _ (λ q. absurd (cc)) one.1 in
+    let three = pass seq (nat_le queue_limit waiting) answers.QueueFull _ (λ q. absurd (cc)) two.1 in
+    let four = pass seq (nat_le last_number last) answers.NumbersSpent _ (λ q. absurd (cc)) three.1 in
+    let wide = or_false (nat_lt size (need len)) (nat_le (2 ^ 32) len) one.0 in
+    (ltb-false free (need len) two.0, leb-false (2 ^ 32) len wide.1, leb-false last_number last four.0, queued_same seq (last + 1) four.1)

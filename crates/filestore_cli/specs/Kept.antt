@@ -36,5 +36,6 @@ pub record IsKept (s : Store) (payloads : List (List ℕ)) (reserved : ℕ) (col
   pub short : AreShort payloads
   pub reserved_is : reserved ≡ needs payloads
   pub room : reserved ≤ free_of s.ring
+  pub first : 1 ≤ s.ring.head.seq + s.ring.count
   pub numbers : s.session.last ≡ last_of s.ring + length s.session.waiting
   pub limit : s.session.last ≤ last_number

@@ -20,12 +20,14 @@ use io_edge::{RealSink, RealSource, Text, write_all};
 use run::{DEVICE_LINE, MEMORY_LINE, USAGE_LINE, run};
 use status::Status;
 use std::alloc::AllocError;
+use std::fs::Files;
 use std::io::ErrorKind;
 use std::process::ExitCode;
 use std::rt::Env;
 use std::{env, io};
 
 /// The words of the command line, behind ROOT, which isn't used yet.
+#[derive(Drop)]
 struct Arguments {
     journal: String,
     words: Vec<Text>,

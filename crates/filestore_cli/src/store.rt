@@ -8,7 +8,7 @@ ghost use Rattle.fs_model.specs.Objects.{look};
 ghost use Rattle.fs_model.specs.Listing.{listing};
 ghost use Rattle.dev_api.specs.Run.{Keeps};
 ghost use Rattle.txn_journal.specs.History.{History, LeavesPrefix, end_of, more};
-ghost use Rattle.txn_journal.specs.Held.{Holds, IsWritable, last_of};
+ghost use Rattle.txn_journal.specs.Held.{Holds, last_of};
 ghost use Rattle.fs_script.specs.Answers.{queue_answer, after_queue, after_drain, bytes_answer, cursor_oid, page_answer};
 ghost use Rattle.filestore_cli.specs.Kept.{ops_of, store_on};
 ghost use Rattle.filestore_cli.specs.Rooms.{room_for};
@@ -150,10 +150,10 @@ impl JournalStore {
             return Ok(answer);
         };
         let need = need(payload.slice().len() as u64);
-        if self.payloads.push(payload).is_err() {
+        let Ok(()) = self.payloads.push(payload) else {
             undo_txn(&txn, &mut self.colls);
             return Err(AllocError);
-        }
+        };
         if let Err(failed) = self.waiting.push(txn) {
             self.payloads.pop();
             undo_txn(&failed.value, &mut self.colls);
@@ -238,7 +238,7 @@ fn piece(bytes: &[u8], at: u64, len: u64) -> &[u8]
 
 // Applies transactions in turn.
 fn apply_all(objects: &mut PlainObjects, txns: &[Txn]) -> Result<(), AllocError>
-    requires { AllByRecursion IsWritable (ops_of txns.now) }
+    requires { AllByRecursion (λ txn. AllByRecursion IsWithinLimits txn.ops) txns.now }
     ensures { OnOk result (objects.new ≡ fold_ops objects.old (flat_map (λ txn. txn.ops) txns.now)) }
 {
     for txn in txns {

@@ -70,7 +70,8 @@ impl Journal {
 
     /// The number of the last transaction held, 0 where there is none.
     pub fn last(&self) -> u64
-        ensures { result ≡ last_of self.now }
+        ensures last { result ≡ last_of self.now }
+        ensures next { result + 1 ≡ self.now.head.seq + self.now.count }
     {
         self.ring.last_seq()
     }
