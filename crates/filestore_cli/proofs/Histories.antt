@@ -9,6 +9,11 @@ use Rattle.dev_api.specs.Disk.{Disk}
 use Rattle.ring_journal.specs.State.{State}
 use Rattle.txn_journal.specs.History.{History, IsPrefix, LeavesPrefix, more, end_of, objects_at}
 use Rattle.txn_journal.specs.Held.{Holds}
+use Rattle.fs_script.specs.declared.statement.Statement.{Statement}
+use Rattle.fs_script.specs.declared.statement.Statement.TheVariants.{Do, Drain, Read, List as ListIn}
+use Rattle.fs_script.specs.Answers.{Session}
+use Rattle.filestore_cli.specs.Kept.{ops_of}
+use Rattle.filestore_cli.specs.Run.{drained_in}
 
 prefix_longer : (h : History) (ys : List (List Op)) (low : ℕ) (c : List ℕ) → IsPrefix h low c → IsPrefix (more h ys) low c
 prefix_longer h ys low c p =
@@ -43,3 +48,15 @@ end_more h ys = omega (arith, length-append h.txns ys)
 pub on_err : {T E : Type 0} (P : Type 0) (r : Result T E) → P → OnErr r P
 on_err P (Ok x) p = tt
 on_err P (Err e) p = p
+
+-- what a statement leaves is a prefix of all that waited, whichever statement it was
+at_least : (h : History) (ws : List (List Op)) (d : Disk) → LeavesPrefix (more h []) (end_of (more h [])) d → LeavesPrefix (more h ws) (end_of h) d
+at_least h ws d leaves =
+    let same : LeavesPrefix h (end_of h) d = subst (λ (ts : List (List Op)). LeavesPrefix (record h { txns = ts }) (h.base + length ts) d) (append-nil h.txns) leaves in
+    longer h ws (end_of h) d same
+
+pub statement_left : (h : History) (s : Session) (st : Statement) (d : Disk) → LeavesPrefix (more h (drained_in s st)) (end_of (more h (drained_in s st))) d → LeavesPrefix (more h (ops_of s.waiting)) (end_of h) d
+statement_left h s Drain d leaves = lower (more h (ops_of s.waiting)) (end_of (more h (ops_of s.waiting))) (end_of h) d (end_more h (ops_of s.waiting)) leaves
+statement_left h s (Do op) d leaves = at_least h (ops_of s.waiting) d leaves
+statement_left h s (Read c o at len) d leaves = at_least h (ops_of s.waiting) d leaves
+statement_left h s (ListIn c cursor max) d leaves = at_least h (ops_of s.waiting) d leaves

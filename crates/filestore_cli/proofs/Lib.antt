@@ -2,6 +2,4 @@ pub mod HashOrder
 pub mod Histories
 pub mod Ordered
 pub mod Pages
-pub mod Runs
 pub mod Sessions
-pub mod Statuses
