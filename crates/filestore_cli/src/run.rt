@@ -23,8 +23,8 @@ use crate::step::step;
 use crate::store::{JournalStore, StoreFault};
 use dev_api::Device;
 use fs_script::{
-    SCRIPT_LIMIT, Script, ScriptFault, ScriptWhy, Statement, answers_law, parse_script,
-    print_answer, print_refusal,
+    SCRIPT_LIMIT, Script, ScriptFault, ScriptWhy, Statement, parse_script, print_answer,
+    print_refusal,
 };
 use io_edge::{ReadFault, Sink, Source, Text, read_all, write_all};
 use std::alloc::Global;
@@ -121,7 +121,6 @@ fn run_script<K: Sink, D: Device>(
     ensures device_stop { result.0 ≡ 4 → Stopped (D.tells ≡ true) store.session script DEVICE_LINE.now (taken (K.faults sink.old) (K.faults sink.new) (K.written sink.old) (K.written sink.new)) (D.disk dev.new) }
     ensures memory_stop { result.0 ≡ 9 → Stopped (D.tells ≡ true) store.session script MEMORY_LINE.now (taken (K.faults sink.old) (K.faults sink.new) (K.written sink.old) (K.written sink.new)) (D.disk dev.new) }
 {
-    answers_law();
     holds_law();
     let mut script = script;
     let mut store = store;
