@@ -4,3 +4,4 @@ pub mod Ordered
 pub mod Pages
 pub mod Runs
 pub mod Sessions
+pub mod Starts

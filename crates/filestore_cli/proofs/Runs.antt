@@ -262,3 +262,7 @@ module _ (told : Type 0) (s : Session) (script rest : List Line) (store : Store)
       let was_drained = going.drained t2 in
       subst (λ (l : List Line). Survives s l l d) all_lines
       (survives_at s going.lines was_drained.txns d fresh was_drained.split (left t2 (at s was_drained.txns) was_drained.holds))
+
+-- before the first line
+pub fresh_holds : (s : Session) (ring : State) (d : Disk) → Holds (at s []) ring d → Holds (history s []) ring d
+fresh_holds s ring d holds = subst (λ (l : List (List Op)). Holds (at s l) ring d) (sym (none-queued s)) holds

@@ -158,10 +158,10 @@ fn mount_store<K: Sink, D: Device>(
         Ok(mounted) => mounted,
         Err(fault) => return Err(refuse_mount(alloc, fault, sink)),
     };
-    match JournalStore::new(alloc, mounted) {
-        Ok(store) => Ok(store),
-        Err(_) => Err(end(sink, MEMORY_LINE.as_bytes(), Status::MEMORY)),
-    }
+    let Ok(store) = JournalStore::new(alloc, mounted) else {
+        return Err(end(sink, MEMORY_LINE.as_bytes(), Status::MEMORY));
+    };
+    Ok(store)
 }
 
 // Ends with the line of a journal that was not mounted.
