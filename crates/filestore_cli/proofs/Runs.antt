@@ -266,3 +266,12 @@ module _ (told : Type 0) (s : Session) (script rest : List Line) (store : Store)
 -- before the first line
 pub fresh_holds : (s : Session) (ring : State) (d : Disk) → Holds (at s []) ring d → Holds (history s []) ring d
 fresh_holds s ring d holds = subst (λ (l : List (List Op)). Holds (at s l) ring d) (sym (none-queued s)) holds
+
+-- where the device tells its content
+pub stopped_told : (told : Type 0) (s : Session) (script : List Line) (last : List ℕ) (sink : Taken) (d : Disk) → told → Stopped told s script last sink d → Stopped (Unit {0}) s script last sink d
+stopped_told told s script last sink d t stop =
+    record { done = stop.done; tried = stop.tried; rest = stop.rest; few = stop.few; cut = stop.cut; ends = stop.ends; survives = λ u. stop.survives t }
+
+pub cut_told : (told : Type 0) (s : Session) (script : List Line) (sink : Taken) (d : Disk) → told → Cut told s script sink d → Cut (Unit {0}) s script sink d
+cut_told told s script sink d t part =
+    record { done = part.done; line = part.line; rest = part.rest; cut = part.cut; written = part.written; survives = λ u. part.survives t }

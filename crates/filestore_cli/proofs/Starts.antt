@@ -2,6 +2,11 @@
 use Rattle.std.proofs.Common.{◌≡◌, ◌⊎◌, ⊎_elim, ℕ, refl, sym, ◌∙◌, arith}
 use Rattle.txn_journal.specs.declared.fault.MountFault.{MountFault}
 use Rattle.txn_journal.specs.declared.fault.MountFault.TheVariants.{NoHeader, WrongFsid, Spent, JournalGap, BadEntry, Device, Memory}
+use Rattle.std.specs.Prelude.{Result, Ok, Err, IfOk, OnOk}
+use Rattle.dev_api.specs.Disk.{Disk}
+use Rattle.filestore_cli.specs.declared.command.Command.TheVariants.{Run}
+use Rattle.filestore_cli.specs.Kept.{Store}
+use Rattle.filestore_cli.specs.Run.{Starts, CanStart}
 use Rattle.filestore_cli.specs.Refusals.{mount_status}
 
 pub is_device : (fault : MountFault) → mount_status fault ≡ 4 → fault ≡ Device
@@ -16,3 +21,8 @@ is_device Memory e = absurd (omega (arith, e))
 -- the status is the fault's, or memory ran out over its line
 pub status_is : (status want : ℕ) (fault : MountFault) → (status ≡ mount_status fault) ⊎ (status ≡ 9) → status ≡ want → (want ≡ 9 → ⊥) → status ≡ mount_status fault
 status_is status want fault ends is not = ⊎_elim (λ e. e) (λ e. absurd (not (sym is ∙ e))) ends
+
+-- what was started could be
+pub could_start : {E : Type 0} (extent : ℕ) (d : Disk) (r : Result Store E) → IfOk r (λ st. Starts Run extent d st.session) → OnOk r (CanStart Run extent d)
+could_start extent d (Ok st) starts = (starts.0, starts.1)
+could_start extent d (Err e) starts = tt
