@@ -2,11 +2,11 @@
 """Times the journal's ring on a file: 10,000 entries of 4,000 bytes, synced once per 100, appended and then read back.
 
 Beside it a plain C program writes, syncs and reads as many bytes at the same places. The two take turns on files of
-96 MB in one folder. Prints the medians of five rounds, and their ratios. Build the ring's program first:
-`cd crates/ring_bench && rt run`. The folder is the first word, or the system's one for temporary files.
+96 MB in one folder. Prints for each the least time of five rounds, with the processor's time in that round, and the
+ratio of the least times. Build the ring's program first: `cd crates/ring_bench && rt run`. The folder is the first
+word, or the system's one for temporary files.
 """
 import os
-import statistics
 import subprocess
 import sys
 import tempfile
@@ -20,9 +20,14 @@ ROUNDS = 5
 
 
 def seconds(program, word, path):
+    """The time that a run takes, and the processor's part of it."""
     start = time.monotonic()
-    subprocess.run([program, word, path], check=True)
-    return time.monotonic() - start
+    child = subprocess.Popen([program, word, path])
+    _, status, usage = os.wait4(child.pid, 0)
+    taken = time.monotonic() - start
+    if os.waitstatus_to_exitcode(status) != 0:
+        sys.exit(f"{program} {word}: status {os.waitstatus_to_exitcode(status)}")
+    return taken, usage.ru_utime + usage.ru_stime
 
 
 def blank(path):
@@ -53,9 +58,12 @@ def main():
                 os.remove(path)
     print(f"cores: {os.cpu_count()}")
     for word in ("append", "read"):
-        ring = statistics.median(times["ring", word])
-        plain = statistics.median(times["plain", word])
-        print(f"{word}: ring {ring:.3f} s, plain {plain:.3f} s, ratio {ring / plain:.2f}")
+        ring, ring_processor = min(times["ring", word])
+        plain, plain_processor = min(times["plain", word])
+        print(
+            f"{word}: ring {ring:.3f} s ({ring_processor:.3f} s of the processor), "
+            f"plain {plain:.3f} s ({plain_processor:.3f} s), ratio {ring / plain:.2f}"
+        )
 
 
 if __name__ == "__main__":
