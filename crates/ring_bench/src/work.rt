@@ -1,4 +1,6 @@
-ghost use Rattle.std.specs.Prelude.{◌≡◌, ◌≤◌};
+ghost use Rattle.std.specs.Prelude.{◌≡◌, ◌≤◌, IsErrOf};
+ghost use Rattle.fault_count.specs.Counted.{Counted};
+ghost use Rattle.ring_bench.specs.declared.work.Fault.TheVariants.{Edge, Ring, Memory};
 
 use dev_api::Device;
 use dev_edge::{EdgeFault, RealDevice, told_on_a_file};
@@ -30,18 +32,24 @@ pub enum Fault {
 }
 
 impl From<EdgeFault> for Fault {
+    ghost from_gives = { λ _ f. f ≡ Edge };
+
     fn from(_fault: EdgeFault) -> Fault {
         Fault::Edge
     }
 }
 
 impl From<RingFault> for Fault {
+    ghost from_gives = { λ fault f. f ≡ Ring fault };
+
     fn from(fault: RingFault) -> Fault {
         Fault::Ring(fault)
     }
 }
 
 impl From<AllocError> for Fault {
+    ghost from_gives = { λ _ f. f ≡ Memory };
+
     fn from(_fault: AllocError) -> Fault {
         Fault::Memory
     }
@@ -63,7 +71,10 @@ pub fn read_command(word: &str) -> Option<Command> {
     }
 }
 
-fn make<R: Files>(device: &mut RealDevice<R>) -> Result<(), Fault> {
+fn make<R: Files>(device: &mut RealDevice<R>) -> Result<(), Fault>
+    ensures faults { device.old.faults ≤ device.new.faults }
+    ensures cause { IsErrOf result (Fault.Ring RingFault.Dev) → Counted device.old.faults device.new.faults }
+{
     let size = device.size();
     if size % 4096 != 0 || size < 16384 || size > 1 << 40 {
         return Err(Fault::Entries);
@@ -72,7 +83,10 @@ fn make<R: Files>(device: &mut RealDevice<R>) -> Result<(), Fault> {
     Ok(())
 }
 
-fn append<R: Files>(alloc: Global, device: &mut RealDevice<R>) -> Result<(), Fault> {
+fn append<R: Files>(alloc: Global, device: &mut RealDevice<R>) -> Result<(), Fault>
+    ensures faults { device.old.faults ≤ device.new.faults }
+    ensures cause { IsErrOf result (Fault.Ring RingFault.Dev) → Counted device.old.faults device.new.faults }
+{
     told_on_a_file::<R>();
     let payload = vec![in alloc; 0x5au8; LENGTH]?;
     let mut ring = Ring::load(device, &FSID)?;
@@ -93,7 +107,10 @@ fn append<R: Files>(alloc: Global, device: &mut RealDevice<R>) -> Result<(), Fau
     Ok(())
 }
 
-fn read<R: Files>(alloc: Global, device: &mut RealDevice<R>) -> Result<(), Fault> {
+fn read<R: Files>(alloc: Global, device: &mut RealDevice<R>) -> Result<(), Fault>
+    ensures faults { device.old.faults ≤ device.new.faults }
+    ensures cause { IsErrOf result (Fault.Ring RingFault.Dev) → Counted device.old.faults device.new.faults }
+{
     told_on_a_file::<R>();
     let mut ring = Ring::load(device, &FSID)?;
     for _ in 0..ENTRIES {
@@ -111,7 +128,10 @@ pub fn do_command<R: Files>(
     alloc: Global,
     command: Command,
     device: &mut RealDevice<R>,
-) -> Result<(), Fault> {
+) -> Result<(), Fault>
+    ensures faults { device.old.faults ≤ device.new.faults }
+    ensures cause { IsErrOf result (Fault.Ring RingFault.Dev) → Counted device.old.faults device.new.faults }
+{
     match command {
         Command::Make => make(device),
         Command::Append => append(alloc, device),
