@@ -1,12 +1,13 @@
 // Where a ring begins anew.
-ghost use Rattle.std.specs.Prelude.{◌≡◌, ◌⊎◌, ℕ, ◌+◌, ◌-◌, ◌%◌, ◌<◌, ◌≤◌, ◌^◌, ◌++◌, [], List, length, take, drop, min, ltb, if◌then◌else◌, true, IfOk, OnOk, OnErr, IfErr, IsErrOf};
+ghost use Rattle.std.specs.Prelude.{◌≡◌, ◌⊎◌, ℕ, ◌+◌, ◌-◌, ◌*◌, ◌%◌, ◌<◌, ◌≤◌, ◌^◌, ◌++◌, [], List, length, take, drop, min, ltb, if◌then◌else◌, Some, true, IfOk, OnOk, OnErr, IfErr, IsErrOf};
 ghost use Rattle.fault_count.specs.Counted.{Counted};
 ghost use Rattle.dev_api.specs.Run.{Keeps};
 ghost use Rattle.ring_frame.specs.Frame.{Entry, need as need_of, told_length};
+ghost use Rattle.ring_frame.specs.Heads.{head_in};
 ghost use Rattle.ring_images.specs.Readable.{Stand, sizes};
 ghost use Rattle.ring_images.specs.Turned.{turned};
 ghost use Rattle.ring_images.specs.Held.{ring_of, Ready, LeavesEither};
-ghost use Rattle.ring_journal.specs.State.{IsSettled, IsUnspent, header_behind};
+ghost use Rattle.ring_journal.specs.State.{IsSettled, MayRise, header_behind};
 ghost use Rattle.ring_journal.specs.Turning.{Turning};
 
 use crate::clear::clear_blocks;
@@ -102,7 +103,7 @@ pub fn restart<D: Device>(
     requires slots { slot < 2 }
     requires extent { D.extent dev.old ≡ head.now.size }
     ensures done { D.tells ≡ true → (olds rest : List Entry) → Turning head.now next.now slot used gone olds rest (D.disk dev.old)
-        → OnOk result (Ready next.now head.now.size rest [] (D.disk dev.new) × IsSettled (D.disk dev.new)) }
+        → OnOk result (Ready next.now head.now.size rest [] (D.disk dev.new) × IsSettled (D.disk dev.new) × (head_in head.now.size (take 4096 (drop (4096 * (1 - slot)) (D.disk dev.new).asked)) ≡ Some next.now)) }
     ensures crash { D.tells ≡ true → (olds rest : List Entry) → Turning head.now next.now slot used gone olds rest (D.disk dev.old)
         → Keeps (LeavesEither head.now (olds ++ rest) (olds ++ rest) next.now rest) (D.disk dev.new) (D.past dev.old) (D.past dev.new) }
     ensures only { IfErr result (λ fault. (fault ≡ RingFault.Dev) ⊎ (fault ≡ RingFault.Memory)) }
@@ -149,10 +150,11 @@ pub fn next_header(head: &RingHead, slot: u64, gone: u64, seq: u64) -> RingHead
     requires small { head.now.size ≤ 2 ^ 40 }
     requires within { gone ≤ head.now.size - 8192 }
     requires slots { slot < 2 }
-    requires unspent { IsUnspent head.now }
+    requires rises { MayRise head.now }
+    requires own_block { (head.now.generation < 2 ^ 63) ⊎ (head.now.generation % 2 ≡ slot) }
     ensures { result ≡ header_behind head.now slot gone seq }
 {
-    let generation = if (head.generation + 1 + slot) % 2 > 0 {
+    let generation = if (head.generation % 2 + 1 + slot) % 2 > 0 {
         head.generation + 1
     } else {
         head.generation + 2

@@ -22,3 +22,6 @@ pub use blob::{Blob, Stored};
 pub use fault::RingFault;
 pub use laws::{held_law, made_law, ready_law};
 pub use ring::Ring;
+
+#[cfg(test)]
+mod tests;

@@ -9,7 +9,7 @@ ghost use Rattle.ring_images.specs.Headers.{IsSize};
 ghost use Rattle.ring_frame.specs.Heads.{Head, head_of};
 ghost use Rattle.ring_images.specs.Turned.{place_of};
 ghost use Rattle.ring_journal.specs.Fault.{IsLoadFault};
-ghost use Rattle.ring_journal.specs.State.{State, IsState, Loaded, Ended, told_first, from, next_head, IsSettled, Holds, NowHolds, free_of, entry_of, IsTooLarge, IsFull, IsUnspent, made, first_head};
+ghost use Rattle.ring_journal.specs.State.{State, IsState, Loaded, Ended, IsAtEnd, told_first, from, next_head, IsSettled, Holds, NowHolds, free_of, entry_of, IsTooLarge, IsFull, IsUnspent, MayRise, Follows, made, first_head};
 
 use crate::begin::{below, next_header, number_from, restart, size_of_first};
 use crate::blob::Stored;
@@ -101,6 +101,7 @@ impl Ring {
         ensures untold { IfOk result (λ ring. (ring.used ≡ 0) × (ring.count ≡ 0)) }
         ensures fsid { IfOk result (λ ring. ring.head.fsid ≡ fsid.now) }
         ensures unspent { IfOk result (λ ring. IsUnspent ring.head) }
+        ensures rises { IfOk result (λ ring. MayRise ring.head) }
         ensures size { IfOk result (λ ring. ring.head.size ≡ D.extent dev.new) }
         ensures no_header { D.tells ≡ true → IsErrOf result RingFault.NoHeader → head_of (D.disk dev.old).reads ≡ None }
         ensures wrong_ring { D.tells ≡ true → (found : List ℕ) → IsErrOf result (RingFault.WrongRing found) → (h : Head) × (head_of (D.disk dev.old).reads ≡ Some h) × (h.fsid ≡ found) × (found ≢ fsid.now) }
@@ -169,20 +170,45 @@ impl Ring {
         Ok(Some(reading.stored))
     }
 
-    /// Begins a new epoch, once `next` has answered None: the ring goes on from the first entry whose number is `seq` or
-    /// more, or behind all entries with `seq` where there is none. What a crash left beyond the entries is never read
-    /// again. Each image has the old header with all entries, or the new one with those that are left. After Dev or
-    /// Memory the ring is loaded again before use.
+    /// Begins a new epoch, once `next` has answered None since the load: the ring goes on from the first entry held whose
+    /// number is `seq` or more, or behind all entries with `seq` where there is none. The device is synced first. What
+    /// a crash left beyond the entries is never read again. Each image has the old header with all synced entries and
+    /// then a front of the others, or the new one with those that are left. After Dev or Memory the ring is loaded again
+    /// before use.
     pub fn begin<D: Device>(&mut self, dev: &mut D, seq: u64) -> Result<(), RingFault>
         requires extent { D.extent dev.old ≡ self.old.head.size }
+        requires at_end { D.tells ≡ true → IsAtEnd self.old (D.disk dev.old) }
+        requires rises { MayRise self.old.head }
+        requires least { 1 ≤ seq }
+        requires most { seq ≤ 2 ^ 63 }
+        ensures head { D.tells ≡ true → OnOk result (self.new.head ≡ next_head self.old seq (readable (D.disk dev.old).asked)) }
+        ensures done { D.tells ≡ true → OnOk result (NowHolds self.new (from seq (readable (D.disk dev.old).asked)) (from seq (readable (D.disk dev.old).asked)) (D.disk dev.new)) }
+        ensures follows { OnOk result (Follows self.old.head self.new.head) }
+        ensures last { self.new.head.seq + self.new.count ≤ 2 ^ 63 }
+        ensures settled { D.tells ≡ true → OnOk result (IsSettled (D.disk dev.new)) }
+        ensures crash { D.tells ≡ true → Keeps (LeavesEither self.old.head (readable (D.disk dev.old).stable) (readable (D.disk dev.old).asked) (next_head self.old seq (readable (D.disk dev.old).asked)) (from seq (readable (D.disk dev.old).asked))) (D.disk dev.new) (D.past dev.old) (D.past dev.new) }
+        ensures same { OnErr result (self.new ≡ self.old) }
+        ensures only { IfErr result (λ fault. (fault ≡ RingFault.Dev) ⊎ (fault ≡ RingFault.Memory)) }
+        ensures extent { D.extent dev.new ≡ D.extent dev.old }
+        ensures faults { D.faults dev.old ≤ D.faults dev.new }
+        ensures cause { IsErrOf result RingFault.Dev → Counted (D.faults dev.old) (D.faults dev.new) }
+    {
+        dev.sync()?;
+        self.begin_settled(dev, seq)?;
+        Ok(())
+    }
+
+    // The same on a settled device.
+    fn begin_settled<D: Device>(&mut self, dev: &mut D, seq: u64) -> Result<(), RingFault>
+        requires extent { D.extent dev.old ≡ self.old.head.size }
         requires ended { D.tells ≡ true → Ended self.old (D.disk dev.old) }
-        requires unspent { IsUnspent self.old.head }
+        requires rises { MayRise self.old.head }
         requires least { 1 ≤ seq }
         requires most { seq ≤ 2 ^ 63 }
         ensures head { D.tells ≡ true → OnOk result (self.new.head ≡ next_head self.old seq (readable (D.disk dev.old).stable)) }
         ensures done { D.tells ≡ true → OnOk result (NowHolds self.new (from seq (readable (D.disk dev.old).stable)) (from seq (readable (D.disk dev.old).stable)) (D.disk dev.new)) }
         ensures last { self.new.head.seq + self.new.count ≤ 2 ^ 63 }
-        ensures size { self.new.head.size ≡ self.old.head.size }
+        ensures follows { OnOk result (Follows self.old.head self.new.head) }
         ensures settled { D.tells ≡ true → OnOk result (IsSettled (D.disk dev.new)) }
         ensures crash { D.tells ≡ true → Keeps (LeavesEither self.old.head (readable (D.disk dev.old).stable) (readable (D.disk dev.old).stable) (next_head self.old seq (readable (D.disk dev.old).stable)) (from seq (readable (D.disk dev.old).stable))) (D.disk dev.new) (D.past dev.old) (D.past dev.new) }
         ensures same { OnErr result (self.new ≡ self.old) }

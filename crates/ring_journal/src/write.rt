@@ -5,8 +5,8 @@ ghost use Rattle.fault_count.specs.Counted.{Counted};
 ghost use Rattle.dev_api.specs.Run.{Keeps};
 ghost use Rattle.ring_frame.specs.Frame.{Entry};
 ghost use Rattle.ring_frame.specs.Heads.{Head};
-ghost use Rattle.ring_images.specs.Held.{Ready, Leaves};
-ghost use Rattle.ring_journal.specs.Due.{Due};
+ghost use Rattle.ring_images.specs.Held.{Leaves};
+ghost use Rattle.ring_journal.specs.Due.{Due, Grown};
 
 use dev_api::{DevError, Device};
 
@@ -26,7 +26,7 @@ pub fn write_entry<D: Device>(
     requires room { used + length bytes.now ≤ size - 8192 }
     requires block { used < size - start → used + 8 ≤ size - start }
     ensures done { D.tells ≡ true → (h : Head) (fs es : List Entry) (e : Entry) → Due start size used bytes.now h fs es e (D.disk dev.old)
-        → OnOk result (Ready h size fs (es ++ e ∷ []) (D.disk dev.new)) }
+        → OnOk result (Grown h size fs (es ++ e ∷ []) (D.disk dev.old) (D.disk dev.new)) }
     ensures crash { D.tells ≡ true → (h : Head) (fs es : List Entry) (e : Entry) → Due start size used bytes.now h fs es e (D.disk dev.old)
         → Keeps (Leaves h fs (fs ++ (es ++ e ∷ []))) (D.disk dev.new) (D.past dev.old) (D.past dev.new) }
     ensures extent { D.extent dev.new ≡ D.extent dev.old }

@@ -8,7 +8,7 @@ use Rattle.ring_images.specs.Linear.{sizes-append}
 use Rattle.ring_images.specs.Held.{Leaves, LeavesEither}
 use Rattle.ring_images.specs.Cleaning.{Cleared}
 use Rattle.ring_journal.specs.State.{IsSettled}
-use Rattle.ring_journal.proofs.Restarts.{start_cleared, middle_turn, turn_before, turn_written, turn_synced, turn_cleared, first_either, second_either, end_ready}
+use Rattle.ring_journal.proofs.Restarts.{start_cleared, middle_turn, turn_before, turn_written, turn_synced, turn_cleared, first_either, second_either, end_ready, end_slot, made}
 use Rattle.ring_journal.proofs.begin.restart.Goals as goal
 
 pub returns-in_err-clear_blocks-clause-crash : goal.returns-in_err-clear_blocks-clause-crash
@@ -136,7 +136,8 @@ returns-clause-done g c = λ told olds rest t.
     let p3 = past c.clear_blocks-2.new.dev in
     let settled2 : IsSettled d2 = d2is ∙ ap settled (sym (ap (λ (x : Disk). x.stable) d2is)) in
     let last = c.in_ok-clear_blocks-2.ensures.done told n front2 rest refl le2 settled2 cleared2 in
-    (end_ready n size front2 rest d3 last.0 last.1, last.1)
+    let made_is = made h n size c.args.slot B olds rest d1.stable turn in
+    (end_ready n size front2 rest d3 last.0 last.1, last.1, end_slot n size c.args.slot (put d1.stable at B) rest (size - 8192) d3 made_is last.0)
 
 pub returns-clause-crash : goal.returns-clause-crash
 returns-clause-crash g c = λ told olds rest t.

@@ -4,9 +4,9 @@ use Rattle.dev_api.specs.Run.{Keeps, keeps_none, keeps_weaker}
 use Rattle.ring_frame.specs.Frame.{Entry, need, spelled}
 use Rattle.ring_frame.specs.Facts.{length-spelled, need-blocks}
 use Rattle.ring_images.specs.Turned.{place_of}
-use Rattle.ring_images.specs.Held.{Leaves, readable, Ready}
+use Rattle.ring_images.specs.Held.{Leaves, readable}
 use Rattle.ring_journal.specs.State.{State, HoldsAs, Holds, NowHolds, entry_of}
-use Rattle.ring_journal.specs.Due.{Due}
+use Rattle.ring_journal.specs.Due.{Due, Grown}
 use Rattle.ring_journal.proofs.Steps.{next_due, now_more, more_named, holds_more}
 use Rattle.ring_journal.proofs.ring.Ring.append.Goals as goal
 
@@ -60,6 +60,7 @@ invariant_of-self g c =
       start_blocks = i.start_blocks;
       size_blocks = i.size_blocks;
       used_blocks = omega (arith, n, need-blocks (length c.args.payload.now), i.used_blocks);
+      own_block = i.own_block;
     }
 
 pub returns-in-Ok-write_entry-clause-done : goal.returns-in-Ok-write_entry-clause-done
@@ -86,9 +87,9 @@ returns-in-Ok-write_entry-clause-done g c = λ told.
     let due : Due v.head.start v.head.size v.used c.deref.result.now v.head fs es (E v) d =
     next_due v fs es d (E v) c.deref.result.now c.self.invariant h (record { seq_fits = omega arith; epoch_fits = c.self.invariant.epoch; payload_fits = omega arith }) number refl small (omega (arith, n)) bytes in
     let t : State = record { head = v.head; slot = v.slot; used = v.used + c.need-need.result; count = v.count + 1; low = v.low } in
-    let ready : Ready v.head v.head.size fs (es ++ E v ∷ []) (g.D.Device.disk c.write_entry.new.dev) = c.in-Ok-write_entry.ensures.done told v.head fs es (E v) due in
+    let grown : Grown v.head v.head.size fs (es ++ E v ∷ []) d (g.D.Device.disk c.write_entry.new.dev) = c.in-Ok-write_entry.ensures.done told v.head fs es (E v) due in
     subst (λ (x : State). NowHolds t (readable d.stable) (readable d.asked ++ E x ∷ []) (g.D.Device.disk c.write_entry.new.dev)) is
-    (now_more v t fs es d (g.D.Device.disk c.write_entry.new.dev) (E v) h ready refl (ap (λ (k : ℕ). v.used + k) n) refl)
+    (now_more v t fs es d (g.D.Device.disk c.write_entry.new.dev) (E v) h c.self.invariant.slots grown refl refl (ap (λ (k : ℕ). v.used + k) n) refl)
 
 pub returns-in-Ok-write_entry-clause-crash : goal.returns-in-Ok-write_entry-clause-crash
 returns-in-Ok-write_entry-clause-crash g c = λ told.

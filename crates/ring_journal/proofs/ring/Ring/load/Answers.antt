@@ -1,4 +1,4 @@
-use Rattle.std.proofs.Common.{rules, ◌≡◌, ◌≢◌, ℕ, ◌<◌, false, List, [], refl, sym, ◌∙◌, subst, arith}
+use Rattle.std.proofs.Common.{rules, inl, ◌≡◌, ◌≢◌, ℕ, ◌<◌, false, List, [], refl, sym, ◌∙◌, subst, arith}
 use Rattle.std.specs.Prelude.{Option, Some, None, IfSome}
 use Rattle.ring_frame.specs.Heads.{head_in, size_fits}
 use Rattle.ring_images.specs.Headers.{head_is}
@@ -65,6 +65,7 @@ invariant_of-result g c =
       start_blocks = i.blocks;
       size_blocks = omega (arith, i.device.blocks, n);
       used_blocks = refl;
+      own_block = inl (omega (arith, c.if-head.false));
     }
 
 pub returns-clause-head : goal.returns-clause-head

@@ -50,6 +50,7 @@ invariant_of-self g c =
       start_blocks = i.start_blocks;
       size_blocks = i.size_blocks;
       used_blocks = omega (arith, parts.size, need-blocks (length r.stored.payload), i.used_blocks);
+      own_block = i.own_block;
     }
 
 pub returns-clause-told : goal.returns-clause-told
