@@ -184,7 +184,7 @@ impl Ring {
         ensures head { D.tells ≡ true → OnOk result (self.new.head ≡ next_head self.old seq (readable (D.disk dev.old).asked)) }
         ensures done { D.tells ≡ true → OnOk result (NowHolds self.new (from seq (readable (D.disk dev.old).asked)) (from seq (readable (D.disk dev.old).asked)) (D.disk dev.new)) }
         ensures follows { OnOk result (Follows self.old.head self.new.head) }
-        ensures last { self.new.head.seq + self.new.count ≤ 2 ^ 63 }
+        ensures last { OnOk result (self.new.head.seq + self.new.count ≤ 2 ^ 63) }
         ensures settled { D.tells ≡ true → OnOk result (IsSettled (D.disk dev.new)) }
         ensures crash { D.tells ≡ true → Keeps (LeavesEither self.old.head (readable (D.disk dev.old).stable) (readable (D.disk dev.old).asked) (next_head self.old seq (readable (D.disk dev.old).asked)) (from seq (readable (D.disk dev.old).asked))) (D.disk dev.new) (D.past dev.old) (D.past dev.new) }
         ensures same { OnErr result (self.new ≡ self.old) }
@@ -207,7 +207,7 @@ impl Ring {
         requires most { seq ≤ 2 ^ 63 }
         ensures head { D.tells ≡ true → OnOk result (self.new.head ≡ next_head self.old seq (readable (D.disk dev.old).stable)) }
         ensures done { D.tells ≡ true → OnOk result (NowHolds self.new (from seq (readable (D.disk dev.old).stable)) (from seq (readable (D.disk dev.old).stable)) (D.disk dev.new)) }
-        ensures last { self.new.head.seq + self.new.count ≤ 2 ^ 63 }
+        ensures last { OnOk result (self.new.head.seq + self.new.count ≤ 2 ^ 63) }
         ensures follows { OnOk result (Follows self.old.head self.new.head) }
         ensures settled { D.tells ≡ true → OnOk result (IsSettled (D.disk dev.new)) }
         ensures crash { D.tells ≡ true → Keeps (LeavesEither self.old.head (readable (D.disk dev.old).stable) (readable (D.disk dev.old).stable) (next_head self.old seq (readable (D.disk dev.old).stable)) (from seq (readable (D.disk dev.old).stable))) (D.disk dev.new) (D.past dev.old) (D.past dev.new) }
