@@ -117,8 +117,8 @@ acked_in s done drained fresh split n seq has =
     let low = acked-settled s done n seq (omega (arith, none)) has in
     let last = (steps s done).number in
     let all : length (queued_by s done) ≡ length drained + length (session_after s done).waiting =
-        ap length split ∙ length-append drained (ops_of (session_after s done).waiting)
-        ∙ ap (λ (k : ℕ). length drained + k) (length-map (session_after s done).waiting (λ (t : Txn). t.ops)) in
+    ap length split ∙ length-append drained (ops_of (session_after s done).waiting)
+    ∙ ap (λ (k : ℕ). length drained + k) (length-map (session_after s done).waiting (λ (t : Txn). t.ops)) in
     omega (arith, low, last, all)
 
 leaves_named : (s : Session) (xs ys : List (List Op)) (low : ℕ) (d : Disk) → xs ≡ ys → LeavesPrefix (at s xs) low d → LeavesPrefix (at s ys) low d
@@ -139,7 +139,7 @@ survives_tried : (s : Session) (done : List Line) (line : Line) (drained : List 
 survives_tried s done line drained d fresh split leaves =
     let t : Session = session_after s done in
     let more_is : (drained ++ ops_of t.waiting) ++ queued_in t line.statement ≡ queued_by s (done ++ line ∷ []) =
-        ap (λ (l : List (List Op)). l ++ queued_in t line.statement) (sym split) ∙ sym (one-queued s done line) in
+    ap (λ (l : List (List Op)). l ++ queued_in t line.statement) (sym split) ∙ sym (one-queued s done line) in
     record {
       low = s.last + length drained;
       leaves = leaves_named s _ _ (s.last + length drained) d more_is (longer (at s (drained ++ ops_of t.waiting)) (queued_in t line.statement) (s.last + length drained) d leaves);
@@ -237,8 +237,8 @@ module _ (told : Type 0) (s : Session) (script old rest : List Line) (store : St
     written = (
       wrote.0,
       wrote.1 ∙ ap (λ (w : Option (List ℕ)). followed_by w (take wrote.0 (answer_text (answer_to store.session line.statement)))) going.written
-      ∙ followed-append before (answers_text s going.lines) (take wrote.0 (answer_text (answer_to store.session line.statement)))
-      ∙ ap (λ (u : Session). followed_by before (answers_text s going.lines ++ take wrote.0 (answer_text (answer_to u line.statement)))) going.session,
+          ∙ followed-append before (answers_text s going.lines) (take wrote.0 (answer_text (answer_to store.session line.statement)))
+          ∙ ap (λ (u : Session). followed_by before (answers_text s going.lines ++ take wrote.0 (answer_text (answer_to u line.statement)))) going.session,
     );
     survives = λ t2.
         let was_drained = going.drained t2 in

@@ -61,12 +61,12 @@ pub kept_queued : (s : State) (O : Objects) (old new : List Txn) (ps qs : List (
     → more ≡ reserved + need (length bytes) → IsKept (store_with s O new next) qs more T
 kept_queued s O old new ps qs S T last next reserved more txn bytes kept accepted after spelled fits room short limit up is are sum =
     let ops : waiting_ops (session_on s O (old ++ txn ∷ []) next) ≡ waiting_ops (session_on s O old last) ++ txn.ops =
-        flat_map-append (λ (t : Txn). t.ops) old (txn ∷ []) ∙ ap (λ (l : List Op). flat_map (λ (t : Txn). t.ops) old ++ l) (append-nil txn.ops) in
+    flat_map-append (λ (t : Txn). t.ops) old (txn ∷ []) ∙ ap (λ (l : List Op). flat_map (λ (t : Txn). t.ops) old ++ l) (append-nil txn.ops) in
     let texts : ps ++ bytes ∷ [] ≡ map payload (ops_of (old ++ txn ∷ [])) =
-        ap (λ (l : List (List ℕ)). l ++ bytes ∷ []) kept.payloads_are
-        ∙ ap (λ (b : List ℕ). map payload (ops_of old) ++ b ∷ []) spelled
-        ∙ sym (map-append payload (ops_of old) (txn.ops ∷ []))
-        ∙ ap (map payload) (sym (map-append (λ (t : Txn). t.ops) old (txn ∷ []))) in
+    ap (λ (l : List (List ℕ)). l ++ bytes ∷ []) kept.payloads_are
+    ∙ ap (λ (b : List ℕ). map payload (ops_of old) ++ b ∷ []) spelled
+    ∙ sym (map-append payload (ops_of old) (txn.ops ∷ []))
+    ∙ ap (map payload) (sym (map-append (λ (t : Txn). t.ops) old (txn ∷ []))) in
     let size : needs (ps ++ bytes ∷ []) ≡ needs ps + need (length bytes) = let a = needs-append ps (bytes ∷ []) in omega (arith, a) in
     let longer : length (old ++ txn ∷ []) ≡ length old + 1 = let a = length-append old (txn ∷ []) in omega (arith, a) in
     subst (λ (ws : List Txn). IsKept (store_with s O ws next) qs more T) (sym is)
@@ -155,7 +155,7 @@ pub room_is : (s : State) (O : Objects) (ws : List Txn) (ps : List (List ℕ)) (
 unfolding is_too_large need_of
 room_is s O ws ps last reserved free S txn bytes kept spelled is =
     let left : s.head.size - 8192 - s.used - needs_of ws ≡ free =
-        let n : reserved ≡ needs_of ws = kept.reserved_is ∙ ap needs kept.payloads_are ∙ needs_are ws in omega (arith, is, n) in
+    let n : reserved ≡ needs_of ws = kept.reserved_is ∙ ap needs kept.payloads_are ∙ needs_are ws in omega (arith, is, n) in
     ap (λ (n : ℕ). room_for (s.head.size - 8192) n (length ws) last (length (payload txn.ops))) left
     ∙ ap (λ (b : List ℕ). room_for (s.head.size - 8192) free (length ws) last (length b)) (sym spelled)
 

@@ -1,4 +1,5 @@
 use crate::run::{MEMORY_LINE, USAGE_LINE, run};
+use dev_edge::MemoryDevice;
 use io_edge::{MemorySink, MemorySource, Text};
 use std::alloc::{AllocError, Global};
 use std::test::Fail;
@@ -9,9 +10,10 @@ const FIRST_SCRIPT: &str =
 const FIRST_OUTPUT: &str =
     "queued 1\nqueued 2\nack 2\ndrained 2\ndata x68656c6c6f\nlist 1\na__head_00000001__1\nend\n";
 
-/// The status and the output of a run, over a source and a sink whose calls fail so.
-fn ran(
+/// The status and the output of a run on a device, over a source and a sink whose calls fail so.
+fn ran_on(
     alloc: Global,
+    device: &mut MemoryDevice,
     words: &[&str],
     script: &str,
     reads: &[u64],
@@ -23,8 +25,20 @@ fn ran(
     }
     let mut source = MemorySource::new(script.as_bytes().to_vec(alloc)?, reads.to_vec(alloc)?);
     let mut sink = MemorySink::new(alloc, 65_536, writes.to_vec(alloc)?)?;
-    let status = run(alloc, &texts, &mut source, &mut sink);
+    let status = run(alloc, &texts, &mut source, device, &mut sink);
     Ok((status.0, sink.written().to_vec(alloc)?))
+}
+
+/// The same on a device of its own.
+fn ran(
+    alloc: Global,
+    words: &[&str],
+    script: &str,
+    reads: &[u64],
+    writes: &[u64],
+) -> Result<(u8, Vec<u8>), AllocError> {
+    let mut device = MemoryDevice::new(alloc, 65_536, Vec::new(alloc))?;
+    ran_on(alloc, &mut device, words, script, reads, writes)
 }
 
 #[test]
@@ -86,7 +100,6 @@ fn other_words_are_no_command(rt: HostRuntime) -> Result<(), Fail> {
         none.as_slice(),
         &["lst"],
         &["--help"],
-        &["run"],
         &["run", "old"],
         &["run", "new", "run"],
         &["new", "run"],
@@ -150,9 +163,123 @@ fn a_full_queue_takes_nothing(rt: HostRuntime) -> Result<(), Fail> {
     output.push_str(
         "refused queue full\nrefused op 0 no collection\nack 1024\ndrained 1024\nqueued 1025\n",
     )?;
-    let (status, written) = ran(rt.alloc(), &["run", "new"], script.as_str(), &[], &[])?;
+    // Room for the entries of all that wait, and for one more.
+    let mut device = MemoryDevice::new(rt.alloc(), 4_206_592, Vec::new(rt.alloc()))?;
+    let words = ["run", "new"];
+    let (status, written) = ran_on(rt.alloc(), &mut device, &words, script.as_str(), &[], &[])?;
     assert_eq!(rt; status, 0);
     assert!(rt; written.as_slice() == output.as_bytes());
     assert!(rt; MEMORY_LINE == "fault: memory\n");
+    Ok(())
+}
+
+#[test]
+fn a_ring_without_room_takes_nothing(rt: HostRuntime) -> Result<(), Fail> {
+    let mut script = String::from_str(
+        rt.alloc(),
+        "mkcoll meta\nwrite meta/a__head_00000001__1 0 x",
+    )?;
+    for _ in 0..16_300u32 {
+        script.push_str("00")?;
+    }
+    script.push_str(
+        "\ntouch meta/a__head_00000001__1\ntouch meta/a__head_00000001__1\ndrain\ntouch meta/a__head_00000001__1\ntouch meta/a__head_00000001__1\n",
+    )?;
+    let mut device = MemoryDevice::new(rt.alloc(), 24_576, Vec::new(rt.alloc()))?;
+    let words = ["run", "new"];
+    let (status, written) = ran_on(rt.alloc(), &mut device, &words, script.as_str(), &[], &[])?;
+    assert_eq!(rt; status, 0);
+    assert!(rt;
+        written.as_slice()
+            == b"queued 1\nrefused too large 20480 16384\nqueued 2\nqueued 3\nack 3\ndrained 3\nqueued 4\nrefused ring full 4096 0\n".as_slice()
+    );
+    Ok(())
+}
+
+#[test]
+fn objects_are_there_in_the_next_run(rt: HostRuntime) -> Result<(), Fail> {
+    let mut device = MemoryDevice::new(rt.alloc(), 65_536, Vec::new(rt.alloc()))?;
+    let runs = [
+        ("run", "", 7, "store: no ring header\n"),
+        ("new", FIRST_SCRIPT, 0, FIRST_OUTPUT),
+        (
+            "run",
+            "read 1.0_head/a__head_00000001__1 0 5\ntouch 1.0_head/b__head_00000002__1\ndrain\n",
+            0,
+            "data x68656c6c6f\nqueued 3\nack 3\ndrained 3\n",
+        ),
+        // What was queued and not drained is gone.
+        (
+            "run",
+            "touch 1.0_head/c__head_00000003__1\n",
+            0,
+            "queued 4\n",
+        ),
+        (
+            "run",
+            "list 1.0_head - 9\n",
+            0,
+            "list 2\na__head_00000001__1\nb__head_00000002__1\nend\n",
+        ),
+        ("new", "list 1.0_head - 9\n", 0, "none\n"),
+    ];
+    for (word, script, status, output) in runs {
+        let new = ["run", "new"];
+        let words = if word == "new" {
+            new.as_slice()
+        } else {
+            &new[..1]
+        };
+        let (ended, written) = ran_on(rt.alloc(), &mut device, words, script, &[], &[])?;
+        assert!(rt;
+            ended == status && written.as_slice() == output.as_bytes(),
+            "{script}"
+        );
+    }
+    Ok(())
+}
+
+#[test]
+fn a_device_of_a_wrong_size_has_no_store(rt: HostRuntime) -> Result<(), Fail> {
+    for (words, output) in [
+        (&["run", "new"][..], "store: device size 12288\n"),
+        (&["run"][..], "store: no ring header\n"),
+    ] {
+        let mut device = MemoryDevice::new(rt.alloc(), 12_288, Vec::new(rt.alloc()))?;
+        let (status, written) = ran_on(rt.alloc(), &mut device, words, FIRST_SCRIPT, &[], &[])?;
+        assert_eq!(rt; status, 7);
+        assert!(rt; written.as_slice() == output.as_bytes());
+    }
+    Ok(())
+}
+
+/// Whether the output has the line.
+fn tells(output: &[u8], line: &[u8]) -> bool {
+    output.windows(line.len()).any(|piece| piece == line)
+}
+
+/// Runs the first script with one call of the device refused, lists what a crash then leaves, and tells whether that
+/// holds what was acknowledged.
+fn survives(alloc: Global, call: u64, choice: u64) -> Result<bool, AllocError> {
+    let mut fail = Vec::new(alloc);
+    fail.push(call)?;
+    let mut device = MemoryDevice::new(alloc, 20_480, fail)?;
+    let (status, written) = ran_on(alloc, &mut device, &["run", "new"], FIRST_SCRIPT, &[], &[])?;
+    let mut left = device.leave(choice, Vec::new(alloc))?;
+    let (_, listed) = ran_on(alloc, &mut left, &["run"], "list 1.0_head - 10\n", &[], &[])?;
+    let there = listed.as_slice() == b"list 1\na__head_00000001__1\nend\n".as_slice();
+    let refused = status == 4 && tells(written.as_slice(), b"fault: device\n");
+    Ok((status == 0 || refused) && (there || !tells(written.as_slice(), b"ack 2\n")))
+}
+
+#[test]
+fn what_was_acknowledged_survives_a_refused_call(rt: HostRuntime) -> Result<(), Fail> {
+    for case in 0..320u64 {
+        let (call, choice) = (case / 8 + 1, case % 8);
+        assert!(rt;
+            survives(rt.alloc(), call, choice)?,
+            "call {call}, choice {choice}"
+        );
+    }
     Ok(())
 }

@@ -6,6 +6,8 @@ use Rattle.filestore_cli.proofs.run.make_store.Goals as goal
 pub returns-in-Err-DeviceSize-clause-refused : goal.returns-in-Err-DeviceSize-clause-refused
 returns-in-Err-DeviceSize-clause-refused g c = λ told seven.
     let n = g.D.Device.extent c.args.dev.now in
-    let why = (c.in-Err-DeviceSize.ensures.size c.in-Err-DeviceSize.size).0 (ap Err c.in-Err-DeviceSize.field-0-is) in
-    (size_line n, (why.1, refl),
-     subst (λ (k : ℕ). EndsWith (taken (g.K.Sink.faults c.args.sink.now) (g.K.Sink.faults c.refuse_size.new.sink) (g.K.Sink.written c.args.sink.now) (g.K.Sink.written c.refuse_size.new.sink)) [] (size_line k)) why.0 (c.refuse_size.ensures.line seven))
+    let why = (c.in-Err-DeviceSize.ensures.size c.in-Err-DeviceSize.size).0 (ap Err c.in-Err-DeviceSize.field-0-is) in (
+      size_line n,
+      (why.1, refl),
+      subst (λ (k : ℕ). EndsWith (taken (g.K.Sink.faults c.args.sink.now) (g.K.Sink.faults c.refuse_size.new.sink) (g.K.Sink.written c.args.sink.now) (g.K.Sink.written c.refuse_size.new.sink)) [] (size_line k)) why.0 (c.refuse_size.ensures.line seven),
+    )

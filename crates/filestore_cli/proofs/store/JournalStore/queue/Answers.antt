@@ -13,8 +13,8 @@ returns-in_default-answer c =
     let bytes = c.slice.ensures ∙ c.in-Ok-encode_txn.ensures.spelled in
     let free = ap (λ (n : ℕ). n - i.reserved) c.free.ensures in
     let room = c.room-answer.ensures
-        ∙ ap (λ (n : ℕ). room_for n (c.free.result - i.reserved) c.len.result i.last (length c.slice.result.now)) c.size-size.ensures
-        ∙ ap (λ (n : ℕ). room_for (i.journal.head.size - 8192) (c.free.result - i.reserved) n i.last (length c.slice.result.now)) (c.len.ensures ∙ i.waiting.ok.0) in
+    ∙ ap (λ (n : ℕ). room_for n (c.free.result - i.reserved) c.len.result i.last (length c.slice.result.now)) c.size-size.ensures
+    ∙ ap (λ (n : ℕ). room_for (i.journal.head.size - 8192) (c.free.result - i.reserved) n i.last (length c.slice.result.now)) (c.len.ensures ∙ i.waiting.ok.0) in
     let is = queue_is i.journal i.objects i.waiting.items i.payloads.items i.last i.reserved _ _ c.args.txn c.slice.result.now c.room-answer.result c.self.invariant c.in-Ok.ensures.ok.0 bytes free room in
     record {
       answer = is ∙ ap (λ (s : Store). queue_answer s.session c.args.txn) c.self.view_is;
@@ -29,8 +29,8 @@ invariant_of-self-2 c =
     let bytes = c.slice.ensures ∙ c.in-Ok-encode_txn.ensures.spelled in
     let free = ap (λ (n : ℕ). n - i.reserved) c.free.ensures in
     let room = c.room-answer.ensures
-        ∙ ap (λ (n : ℕ). room_for n (c.free.result - i.reserved) c.len.result i.last (length c.slice.result.now)) c.size-size.ensures
-        ∙ ap (λ (n : ℕ). room_for (i.journal.head.size - 8192) (c.free.result - i.reserved) n i.last (length c.slice.result.now)) (c.len.ensures ∙ i.waiting.ok.0) in
+    ∙ ap (λ (n : ℕ). room_for n (c.free.result - i.reserved) c.len.result i.last (length c.slice.result.now)) c.size-size.ensures
+    ∙ ap (λ (n : ℕ). room_for (i.journal.head.size - 8192) (c.free.result - i.reserved) n i.last (length c.slice.result.now)) (c.len.ensures ∙ i.waiting.ok.0) in
     let told = room_queued _ _ _ _ _ c.in-Queued.seq (sym c.in-Queued.is ∙ room) in
     let again = c.slice-2.ensures ∙ sym c.slice.ensures in
     let size = c.need-need.ensures ∙ ap (λ (b : List ℕ). need (length b)) again in
@@ -44,8 +44,8 @@ returns-clause-answer c =
     let bytes = c.slice.ensures ∙ c.in-Ok-encode_txn.ensures.spelled in
     let free = ap (λ (n : ℕ). n - i.reserved) c.free.ensures in
     let room = c.room-answer.ensures
-        ∙ ap (λ (n : ℕ). room_for n (c.free.result - i.reserved) c.len.result i.last (length c.slice.result.now)) c.size-size.ensures
-        ∙ ap (λ (n : ℕ). room_for (i.journal.head.size - 8192) (c.free.result - i.reserved) n i.last (length c.slice.result.now)) (c.len.ensures ∙ i.waiting.ok.0) in
+    ∙ ap (λ (n : ℕ). room_for n (c.free.result - i.reserved) c.len.result i.last (length c.slice.result.now)) c.size-size.ensures
+    ∙ ap (λ (n : ℕ). room_for (i.journal.head.size - 8192) (c.free.result - i.reserved) n i.last (length c.slice.result.now)) (c.len.ensures ∙ i.waiting.ok.0) in
     let is = queue_is i.journal i.objects i.waiting.items i.payloads.items i.last i.reserved _ _ c.args.txn c.slice.result.now c.room-answer.result c.self.invariant c.in-Ok.ensures.ok.0 bytes free room in
     sym c.in-Queued.is ∙ is ∙ ap (λ (s : Store). queue_answer s.session c.args.txn) c.self.view_is
 
@@ -55,7 +55,7 @@ returns-clause-after c =
     let bytes = c.slice.ensures ∙ c.in-Ok-encode_txn.ensures.spelled in
     let free = ap (λ (n : ℕ). n - i.reserved) c.free.ensures in
     let room = c.room-answer.ensures
-        ∙ ap (λ (n : ℕ). room_for n (c.free.result - i.reserved) c.len.result i.last (length c.slice.result.now)) c.size-size.ensures
-        ∙ ap (λ (n : ℕ). room_for (i.journal.head.size - 8192) (c.free.result - i.reserved) n i.last (length c.slice.result.now)) (c.len.ensures ∙ i.waiting.ok.0) in
+    ∙ ap (λ (n : ℕ). room_for n (c.free.result - i.reserved) c.len.result i.last (length c.slice.result.now)) c.size-size.ensures
+    ∙ ap (λ (n : ℕ). room_for (i.journal.head.size - 8192) (c.free.result - i.reserved) n i.last (length c.slice.result.now)) (c.len.ensures ∙ i.waiting.ok.0) in
     let is = queue_is i.journal i.objects i.waiting.items i.payloads.items i.last i.reserved _ _ c.args.txn c.slice.result.now c.room-answer.result c.self.invariant c.in-Ok.ensures.ok.0 bytes free room in
     queued_is i.journal i.objects i.waiting.items _ i.last c.in-Queued.seq c.args.txn (sym c.in-Queued.is ∙ is) c.in_default-push-2.ensures.items ∙ ap (λ (s : Store). after_queue s.session c.args.txn) c.self.view_is
