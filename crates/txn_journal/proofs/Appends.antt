@@ -89,12 +89,12 @@ module _ (s : State) (d : Disk) (xs : List (List ℕ)) (p : List ℕ) (t : State
       let one : List (List ℕ) = xs ++ p ∷ [] in
       let rest : List Entry = entries_from s.head.epoch (s.head.seq + s.count + length one) ys in
       let all : (readable d.asked ++ entries_after s one) ++ rest ≡ readable d.asked ++ entries_after s ps =
-          append_assoc (readable d.asked) (entries_after s one) rest
-          ∙ ap (λ (l : List Entry). readable d.asked ++ l) (sym (entries-append s.head.epoch (s.head.seq + s.count) one ys))
-          ∙ ap (λ (l : List (List ℕ)). readable d.asked ++ entries_after s l) (append_assoc xs (p ∷ []) ys ∙ sym split) in
+      append_assoc (readable d.asked) (entries_after s one) rest
+      ∙ ap (λ (l : List Entry). readable d.asked ++ l) (sym (entries-append s.head.epoch (s.head.seq + s.count) one ys))
+      ∙ ap (λ (l : List (List ℕ)). readable d.asked ++ entries_after s l) (append_assoc xs (p ∷ []) ys ∙ sym split) in
       let at : P (readable d.stable) (readable d.asked ++ entries_after s one) =
-          subst (P (readable d.stable)) all_now (subst (λ (a : List Entry). P a (readable mid.asked ++ entry_of t seq p ∷ [])) held.stable
-          (subst (λ (k : Head). Leaves k (readable mid.stable) (readable mid.asked ++ entry_of t seq p ∷ []) now) h leaves)) in
+      subst (P (readable d.stable)) all_now (subst (λ (a : List Entry). P a (readable mid.asked ++ entry_of t seq p ∷ [])) held.stable
+      (subst (λ (k : Head). Leaves k (readable mid.stable) (readable mid.asked ++ entry_of t seq p ∷ []) now) h leaves)) in
       subst (P (readable d.stable)) all
       (each_weaker (Left s.head (readable d.stable) (readable d.asked ++ entries_after s one)) (Left s.head (readable d.stable) ((readable d.asked ++ entries_after s one) ++ rest))
       (λ c l. longer s.head (readable d.stable) (readable d.asked ++ entries_after s one) rest c l) now at)

@@ -214,7 +214,7 @@ holds_leaves h s d holds leaves =
     let fs : List Entry = holds.before ++ holds.since in
     let P : List Entry → List Entry → Type 0 = λ a b. Leaves s.head a b d in
     let named : P fs (fs ++ []) =
-        subst (P fs) (sym (append-nil fs)) (subst (P fs) holds.ring.asked (subst (λ (a : List Entry). P a (readable d.asked)) holds.ring.stable leaves)) in
+    subst (P fs) (sym (append-nil fs)) (subst (P fs) holds.ring.asked (subst (λ (a : List Entry). P a (readable d.asked)) holds.ring.stable leaves)) in
     let none : Spell [] [] = record { are = refl; fit = tt } in
     subst (λ (ts : List (List Op)). LeavesPrefix (record h { txns = ts }) (end_of h) d) (append-nil h.txns)
     (leaves_prefix h s.head holds.before holds.since holds.fsid holds.first holds.base holds.origin holds.spelled [] [] none d named)

@@ -51,7 +51,7 @@ module _ (bytes : List ℕ) (k : Head) (es : List Entry) (head : head_of bytes �
       mount_leaves h low2 old d image sound leaves either =
           let fresh : IsUnspentImage bytes = λ h2 is. subst IsUnspent (some_same k h2 (sym head ∙ is)) unspent in
           let named : LeavesEither k es es g es d =
-              subst (λ (x : List Entry). LeavesEither k es es g x d) all_is (subst (λ (x : Head). LeavesEither x es es g (from 1 es) d) same either) in
+          subst (λ (x : List Entry). LeavesEither k es es g x d) all_is (subst (λ (x : Head). LeavesEither x es es g (from 1 es) d) same either) in
           either_prefix h low2 k g es bytes d head read fsid unspent seq_is g_fsid g_seq (leaves bytes image sound fresh) named
 
       module _ (t : State) (begun : t.head ≡ g) (d : Disk) (now : NowHolds t (from 1 es) (from 1 es) d) (O : Objects) (leads : replayed finite.empty es ≡ Ok O) where

@@ -43,6 +43,7 @@ fit_all (op ∷ ops) h = (or_left (too_big op) (list_any too_big ops) h, fit_all
     or_left : (a b : Bool) → (a || b) ≡ false → a ≡ false
     or_left true b e = e
     or_left false b e = refl
+
     or_right : (a b : Bool) → (a || b) ≡ false → b ≡ false
     or_right true b e = absurd (cc)
     or_right false b e = e
