@@ -1,4 +1,4 @@
-use Rattle.std.proofs.Common.{rules, ◌≡◌, ◌∙◌, ap, refl, arith, sym, subst, List, ℕ, ◌+◌, ◌≤◌, ◌^◌, Ok, take, drop}
+use Rattle.std.proofs.Common.{rules, ◌≡◌, ◌∙◌, ap, refl, arith, sym, subst, List, ℕ, Ok, take, drop}
 use Rattle.std.specs.FinMap as map
 use Rattle.fs_model.specs.Objects.{Objects}
 use Rattle.ring_frame.specs.Heads.{Head}

@@ -1,6 +1,5 @@
-use Rattle.std.proofs.Common.{rules, ◌≡◌, ◌∙◌, ap, refl, arith, List, ℕ, ◌++◌, take, length, subst, sym}
-use Rattle.dev_api.specs.Run.{keeps_none, keeps_weaker, keeps_then, counted_before}
-use Rattle.ring_frame.specs.Heads.{Head}
+use Rattle.std.proofs.Common.{rules, ◌∙◌, ap, refl, arith, List, ℕ, ◌++◌, sym}
+use Rattle.dev_api.specs.Run.{keeps_none, keeps_weaker, keeps_then}
 use Rattle.ring_journal.specs.State.{State}
 use Rattle.ring_images.specs.Held.{readable}
 use Rattle.txn_journal.specs.Held.{with_more, entries_after}
