@@ -119,7 +119,10 @@ impl Journal {
         };
         let start = ring.start_seq();
         if start > 1 {
-            return Err(MountFault::JournalGap { start, committed: 0 });
+            return Err(MountFault::JournalGap {
+                start,
+                committed: 0,
+            });
         }
         let objects = match replay(alloc, &mut ring, dev) {
             Ok(objects) => objects,

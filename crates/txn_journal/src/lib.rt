@@ -16,3 +16,5 @@ pub use fault::{MakeFault, MountFault, WriteFault};
 pub use journal::{Journal, MountedJournal};
 pub use laws::holds_law;
 
+#[cfg(test)]
+mod tests;

@@ -1,4 +1,4 @@
-use Rattle.std.proofs.Common.{rules, ◌≡◌, ◌∙◌, ap, refl, arith, sym, subst, List, ℕ, ◌+◌, ◌≤◌, ◌^◌, Ok, take, drop}
+use Rattle.std.proofs.Common.{rules, ◌≡◌, ◌∙◌, ap, refl, arith, sym, subst, List, ℕ, Ok, take, drop}
 use Rattle.std.specs.FinMap as map
 use Rattle.fs_model.specs.Objects.{Objects}
 use Rattle.ring_frame.specs.Heads.{Head}
@@ -10,9 +10,16 @@ use Rattle.txn_journal.proofs.Mounts.{no_entries, replay_ends, replay_goes, repl
 use Rattle.txn_journal.proofs.replay.replay.Goals as goal
 
 pub loop-stored-init : goal.loop-stored-init
-loop-stored-init g c =
-    (c.requires.extent, c.requires.loaded, refl, (λ told. refl), (λ told. refl), refl, search rules,
-     λ told. ap (λ (n : ℕ). replayed map.empty (take n (readable (g.D.Device.disk c.args.dev.now).stable))) c.requires.untold ∙ no_entries map.empty ∙ ap (λ (O : Objects). Ok O) (sym c.new-objects.ensures))
+loop-stored-init g c = (
+  c.requires.extent,
+  c.requires.loaded,
+  refl,
+  (λ told. refl),
+  (λ told. refl),
+  refl,
+  search rules,
+  λ told. ap (λ (n : ℕ). replayed map.empty (take n (readable (g.D.Device.disk c.args.dev.now).stable))) c.requires.untold ∙ no_entries map.empty ∙ ap (λ (O : Objects). Ok O) (sym c.new-objects.ensures),
+)
 
 pub returns-in-Ok-None-clause-ok : goal.returns-in-Ok-None-clause-ok
 returns-in-Ok-None-clause-ok g c = λ told.
@@ -34,19 +41,20 @@ loop-stored-preserved g c =
     let inv = c.loop-stored.invariant in
     let next = c.next.ensures in
     let number = if_some _ _ _ c.in-Ok-Some.field-0-is c.in-Ok-Some.ensures.number in
-    let R = readable (g.D.Device.disk c.args.dev.now).stable in
-    (next.extent ∙ inv.0 ∙ ap (λ (h : Head). h.size) (sym next.head),
-     (λ told. if_some _ _ _ c.in-Ok-Some.field-0-is (c.in-Ok-Some.ensures.more told)),
-     next.head ∙ inv.2,
-     (λ told. next.disk told ∙ inv.3 told),
-     (λ told. next.past told ∙ inv.4 told),
-     next.extent ∙ inv.5,
-     omega (arith, inv.6, next.faults),
-     (λ told.
-      subst (λ (n : ℕ). replayed map.empty (take n R) ≡ Ok c.apply_entry.new.objects) (sym number.1)
-      (replay_goes R c.loop-stored.ring.count map.empty c.loop-stored.objects (inv.7 told) c.in-Ok-Some.stored
-      (sym c.in-Ok-Some.field-0-is ∙ c.in-Ok-Some.ensures.told told ∙ ap (λ (d : Disk). told_first (drop c.loop-stored.ring.count (readable d.stable))) (inv.3 told))
-      c.apply_entry.new.objects (λ epoch. ap (λ (p : List ℕ). applied c.loop-stored.objects (record { seq = c.in-Ok-Some.stored.seq; epoch = epoch; payload = p })) (sym c.slice.ensures) ∙ c.in_default.ensures.ok epoch))))
+    let R = readable (g.D.Device.disk c.args.dev.now).stable in (
+      next.extent ∙ inv.0 ∙ ap (λ (h : Head). h.size) (sym next.head),
+      (λ told. if_some _ _ _ c.in-Ok-Some.field-0-is (c.in-Ok-Some.ensures.more told)),
+      next.head ∙ inv.2,
+      (λ told. next.disk told ∙ inv.3 told),
+      (λ told. next.past told ∙ inv.4 told),
+      next.extent ∙ inv.5,
+      omega (arith, inv.6, next.faults),
+      (λ told.
+          subst (λ (n : ℕ). replayed map.empty (take n R) ≡ Ok c.apply_entry.new.objects) (sym number.1)
+          (replay_goes R c.loop-stored.ring.count map.empty c.loop-stored.objects (inv.7 told) c.in-Ok-Some.stored
+          (sym c.in-Ok-Some.field-0-is ∙ c.in-Ok-Some.ensures.told told ∙ ap (λ (d : Disk). told_first (drop c.loop-stored.ring.count (readable d.stable))) (inv.3 told))
+          c.apply_entry.new.objects (λ epoch. ap (λ (p : List ℕ). applied c.loop-stored.objects (record { seq = c.in-Ok-Some.stored.seq; epoch = epoch; payload = p })) (sym c.slice.ensures) ∙ c.in_default.ensures.ok epoch))),
+    )
 
 pub returns-in-Err-apply_entry-clause-bad : goal.returns-in-Err-apply_entry-clause-bad
 returns-in-Err-apply_entry-clause-bad g c = λ told free counted.

@@ -1,5 +1,5 @@
 -- What has been told so far has been applied.
-use Rattle.std.proofs.Common.{◌≡◌, ◌≤◌, ℕ, ◌+◌, ◌-◌, ◌^◌, true, Ok, take}
+use Rattle.std.proofs.Common.{◌≡◌, ◌≤◌, ◌+◌, ◌-◌, ◌^◌, true, Ok, take}
 use Rattle.std.specs.FinMap as map
 use Rattle.ring_images.specs.Held.{readable}
 use Rattle.ring_journal.specs.State.{Loaded}

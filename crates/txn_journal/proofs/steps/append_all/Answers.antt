@@ -1,6 +1,5 @@
-use Rattle.std.proofs.Common.{rules, ◌≡◌, ◌∙◌, ap, refl, arith, List, ℕ, ◌++◌, take, length, subst, sym}
-use Rattle.dev_api.specs.Run.{keeps_none, keeps_weaker, keeps_then, counted_before}
-use Rattle.ring_frame.specs.Heads.{Head}
+use Rattle.std.proofs.Common.{rules, ◌∙◌, ap, refl, arith, List, ℕ, ◌++◌, sym}
+use Rattle.dev_api.specs.Run.{keeps_none, keeps_weaker, keeps_then}
 use Rattle.ring_journal.specs.State.{State}
 use Rattle.ring_images.specs.Held.{readable}
 use Rattle.txn_journal.specs.Held.{with_more, entries_after}
@@ -27,8 +26,8 @@ returns-in-Err g c =
       moved = tt;
       holds = λ told. tt;
       crash = λ told.
-      keeps_then _ _ _ _ _ _ (inv.4 told)
-      (keeps_weaker _ _ (leaves_one _ (g.D.Device.disk c.args.dev.now) _ _ _ inv.0 _ c.last_seq-seq.ensures _ (inv.3 told) _ _ (split_here _ _ _ _ c.loop-payload-test.true here)) _ _ _ (c.append.ensures.crash told));
+          keeps_then _ _ _ _ _ _ (inv.4 told)
+          (keeps_weaker _ _ (leaves_one _ (g.D.Device.disk c.args.dev.now) _ _ _ inv.0 _ c.last_seq-seq.ensures _ (inv.3 told) _ _ (split_here _ _ _ _ c.loop-payload-test.true here)) _ _ _ (c.append.ensures.crash told));
       extent = c.append.ensures.extent ∙ inv.1;
       faults = omega (arith, inv.2, c.append.ensures.faults);
       cause = λ is. absurd (cc);
@@ -38,13 +37,14 @@ pub loop-payload-preserved : goal.loop-payload-preserved
 loop-payload-preserved g c =
     let inv = c.loop-payload.invariant in
     let here = c.slice.ensures ∙ c.payload-item.is in
-    let more = taken _ _ _ _ c.loop-payload-test.true here in
-    (c.in-Ok.ensures.moved ∙ with_one _ _ _ _ inv.0 ∙ ap (with_more c.args.ring.now) (sym more),
-     c.append.ensures.extent ∙ inv.1,
-     omega (arith, inv.2, c.append.ensures.faults),
-     (λ told.
-      let one = holds_one _ (g.D.Device.disk c.args.dev.now) _ _ _ inv.0 _ c.last_seq-seq.ensures _ (inv.3 told) _ _ (c.in-Ok.ensures.done told) in
-      record { holds = one.holds; stable = one.stable; asked = one.asked ∙ ap (λ (l : List (List ℕ)). readable (g.D.Device.disk c.args.dev.now).asked ++ entries_after c.args.ring.now l) (sym more) }),
-     (λ told.
-      keeps_then _ _ _ _ _ _ (inv.4 told)
-      (keeps_weaker _ _ (leaves_one _ (g.D.Device.disk c.args.dev.now) _ _ _ inv.0 _ c.last_seq-seq.ensures _ (inv.3 told) _ _ (split_here _ _ _ _ c.loop-payload-test.true here)) _ _ _ (c.append.ensures.crash told))))
+    let more = taken _ _ _ _ c.loop-payload-test.true here in (
+      c.in-Ok.ensures.moved ∙ with_one _ _ _ _ inv.0 ∙ ap (with_more c.args.ring.now) (sym more),
+      c.append.ensures.extent ∙ inv.1,
+      omega (arith, inv.2, c.append.ensures.faults),
+      (λ told.
+          let one = holds_one _ (g.D.Device.disk c.args.dev.now) _ _ _ inv.0 _ c.last_seq-seq.ensures _ (inv.3 told) _ _ (c.in-Ok.ensures.done told) in
+          record { holds = one.holds; stable = one.stable; asked = one.asked ∙ ap (λ (l : List (List ℕ)). readable (g.D.Device.disk c.args.dev.now).asked ++ entries_after c.args.ring.now l) (sym more) }),
+      (λ told.
+          keeps_then _ _ _ _ _ _ (inv.4 told)
+          (keeps_weaker _ _ (leaves_one _ (g.D.Device.disk c.args.dev.now) _ _ _ inv.0 _ c.last_seq-seq.ensures _ (inv.3 told) _ _ (split_here _ _ _ _ c.loop-payload-test.true here)) _ _ _ (c.append.ensures.crash told))),
+    )

@@ -1,4 +1,4 @@
-use Rattle.std.proofs.Common.{rules, subst, refl}
+use Rattle.std.proofs.Common.{subst, refl}
 use Rattle.ring_images.specs.Headers.{IsSize}
 use Rattle.txn_journal.specs.Mount.{no_fsid}
 use Rattle.txn_journal.proofs.Left.{settled_sound, made_reads, made_leaves}

@@ -1,12 +1,10 @@
-use Rattle.std.proofs.Common.{rules, ◌≡◌, ◌∙◌, ◌-◌, ℕ, ap, sym, subst, refl, arith, Ok, Err}
+use Rattle.std.proofs.Common.{◌∙◌, ℕ, ap, sym, refl, arith, Err}
 use Rattle.std.specs.FinMap as map
-use Rattle.fs_model.specs.Objects.{Objects}
 use Rattle.dev_api.specs.Disk.{Disk}
 use Rattle.dev_api.specs.Run.{keeps_weaker, keeps_then, keeps_same}
-use Rattle.ring_frame.specs.Heads.{Head}
 use Rattle.ring_images.specs.Held.{readable}
 use Rattle.txn_journal.specs.declared.fault.MountFault.TheVariants.{JournalGap}
-use Rattle.txn_journal.specs.Mount.{mounted, replayed}
+use Rattle.txn_journal.specs.Mount.{replayed}
 use Rattle.txn_journal.specs.History.{LeavesPrefix}
 use Rattle.txn_journal.proofs.Left.{within_prefix}
 use Rattle.txn_journal.proofs.Mounting.{mount_gap, mount_bad, mount_leaves, mount_ok, mount_holds, mount_none}

@@ -1,4 +1,4 @@
-use Rattle.std.proofs.Common.{rules, ◌≡◌, ◌∙◌, ◌-◌, ap, sym, subst, refl}
+use Rattle.std.proofs.Common.{◌∙◌, ◌-◌, ap, sym, subst}
 use Rattle.dev_api.specs.Run.{keeps_weaker, keeps_then}
 use Rattle.ring_frame.specs.Heads.{Head}
 use Rattle.ring_images.specs.Held.{readable}
