@@ -1,4 +1,4 @@
-use Rattle.std.proofs.Common.{◌≡◌, List, sym, subst}
+use Rattle.std.proofs.Common.{◌≡◌, List, subst}
 use Rattle.dev_api.specs.Disk.{Disk}
 use Rattle.dev_api.specs.Run.{Keeps, keeps_sync}
 use Rattle.ring_frame.specs.Frame.{Entry}
