@@ -1,5 +1,5 @@
 -- Runs of statements, one after another.
-use Rattle.std.proofs.Common.{◌≡◌, ◌⊎◌, inl, inr, ⊎_elim, ℕ, ◌+◌, ◌-◌, ◌≤◌, ◌^◌, min, List, [], ◌∷◌, ◌++◌, length, map, take, refl, sym, ◌∙◌, ap, subst, arith, append_assoc, length-append}
+use Rattle.std.proofs.Common.{◌≡◌, inl, inr, ⊎_elim, ℕ, ◌+◌, ◌≤◌, List, [], ◌∷◌, ◌++◌, length, take, refl, sym, ◌∙◌, ap, subst, arith, append_assoc, length-append}
 use mathlib.Core.List.{append-nil}
 use Rattle.std.specs.Prelude.{Option, None, Some, Contains}
 use Rattle.std.proofs.lemmas.List.{map-append, length-map}
@@ -21,7 +21,7 @@ use Rattle.fs_script.specs.Printed.{answer_text}
 use Rattle.fs_script.specs.Answers.{Session, answer_to, after, answers, answers_text, session_after, queued_in, queued_by, queue_answer, queued_if, ops_if, txn_of}
 use Rattle.fs_script.proofs.Sessions.{session_after-append, queued_by-append, answers_text-append, steps, acked-settled}
 use Rattle.filestore_cli.specs.Kept.{Store, ops_of}
-use Rattle.filestore_cli.specs.Run.{Taken, taken, Writes, WritesBeginning, EndsWith, history, drained_in, Survives, Cut, Stopped}
+use Rattle.filestore_cli.specs.Run.{Taken, taken, WritesBeginning, EndsWith, history, drained_in, Survives, Cut, Stopped}
 use Rattle.filestore_cli.proofs.Histories.{longer}
 
 -- ---- what is written

@@ -1,5 +1,5 @@
 -- What a run of the program writes, by its status.
-use Rattle.std.specs.Prelude.{◌≡◌, ◌⊎◌, ℕ, ◌-◌, ◌≤◌, List, [], ◌∷◌, ◌++◌, length, take, Contains, Option, None, Some, Result, Ok, Err}
+use Rattle.std.specs.Prelude.{◌≡◌, ◌⊎◌, ℕ, ◌-◌, ◌≤◌, List, [], ◌∷◌, ◌++◌, length, take, Contains, Option, Some, Ok, Err}
 use Rattle.fault_count.specs.Counted.{Counted}
 use Rattle.io_edge.specs.Told.{followed_by}
 use Rattle.io_edge.specs.Pieces.{IsPast}
@@ -9,7 +9,6 @@ use Rattle.fs_script.specs.Grammar.{Refused, script_said, script_limit}
 use Rattle.fs_script.specs.Printed.{refusal_text}
 use Rattle.fs_script.specs.declared.statement.Statement.{Statement}
 use Rattle.fs_script.specs.declared.statement.Statement.TheVariants.{Do, Drain, Read, List as ListIn}
-use Rattle.fs_script.specs.declared.answer.Answer.{Answer}
 use Rattle.fs_script.specs.declared.answer.Answer.TheVariants.{Drained}
 use Rattle.fs_script.specs.Printed.{answer_text}
 use Rattle.fs_script.specs.Answers.{Session, started, new_session, answer_to, answers, session_after, queued_by, answers_text}

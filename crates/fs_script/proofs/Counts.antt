@@ -1,5 +1,5 @@
 -- More pieces than a field or a statement has.
-use Rattle.std.proofs.Common.{◌≡◌, ℕ, Bool, List, [], ◌∷◌, refl}
+use Rattle.std.proofs.Common.{◌≡◌, ℕ, Bool, List, ◌∷◌, refl}
 use Rattle.std.specs.Prelude.{Err}
 use Rattle.std.specs.List.{slice_split}
 use Rattle.fs_script.specs.declared.fault.ScriptWhy.TheVariants.{BadObject, WrongCount}

@@ -11,7 +11,7 @@ use Rattle.fs_script.specs.declared.statement.Statement.{Statement}
 use Rattle.fs_script.specs.declared.statement.Statement.TheVariants.{Do, Drain, Read, List as ListIn}
 use Rattle.fs_script.specs.declared.statement.Line.{Line}
 use Rattle.fs_script.specs.declared.answer.Answer.{Answer}
-use Rattle.fs_script.specs.declared.answer.Answer.TheVariants.{Queued, RefusedOp, TooLarge, RingFull, QueueFull, NumbersSpent, Drained, Bytes, Listed, Missing}
+use Rattle.fs_script.specs.declared.answer.Answer.TheVariants.{Queued, TooLarge, RingFull, QueueFull, NumbersSpent, Drained}
 use Rattle.fs_script.specs.Answers.{Session, colls_queued, queue_limit, last_number, need_of, free_bytes, is_too_large, room_answer, refused_or, queue_answer, after_queue, queued_if, ops_if, bytes_answer, page_answer, cursor_oid, txn_of, answer_to, after, queued_in, answers, session_after, queued_by, answers_text}
 use Rattle.fs_script.specs.Printed.{answer_text}
 

@@ -1,12 +1,11 @@
 -- The grammar of scripts: lines, words, fields, statements.
-use Rattle.std.specs.Prelude.{◌≡◌, ℕ, ◌+◌, ◌^◌, Bool, true, false, ◌==◌, nat_lt, if◌then◌else◌, List, [], ◌∷◌, length, Option, None, Some, Result, Ok, Err, codes}
+use Rattle.std.specs.Prelude.{◌≡◌, ℕ, ◌+◌, ◌^◌, Bool, true, ◌==◌, nat_lt, if◌then◌else◌, List, [], ◌∷◌, length, Option, None, Some, Result, Ok, Err, codes}
 use Rattle.std.specs.List.{slice_split}
-use Rattle.std.specs.Option.{ok_or, option_and_then}
+use Rattle.std.specs.Option.{ok_or}
 use Rattle.std.specs.Result.{result_ok}
 use Rattle.std.specs.Str.{bytes_eq}
 use Rattle.fs_names.specs.declared.coll.Coll.{Coll}
 use Rattle.fs_names.specs.declared.oid.Oid.{Oid}
-use Rattle.fs_names.specs.declared.fault.NameFault.{NameFault}
 use Rattle.fs_names.specs.Numbers.{number_of}
 use Rattle.fs_names.specs.Reading.{coll_of, oid_of}
 use Rattle.fs_model.specs.declared.op.Op.TheVariants.{MkColl, Touch, Write}

@@ -1,4 +1,3 @@
-use Rattle.std.proofs.Common.{rules, ◌≡◌, ◌∙◌, ap, sym, subst, refl, arith}
 use Rattle.filestore_cli.proofs.Histories.{statement_left}
 use Rattle.filestore_cli.proofs.run.answer.Goals as goal
 

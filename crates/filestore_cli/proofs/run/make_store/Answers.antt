@@ -1,4 +1,4 @@
-use Rattle.std.proofs.Common.{rules, ◌≡◌, ◌∙◌, List, ℕ, [], ap, sym, subst, refl, arith, Err}
+use Rattle.std.proofs.Common.{ℕ, [], ap, subst, refl, Err}
 use Rattle.filestore_cli.specs.Refusals.{size_line}
 use Rattle.filestore_cli.specs.Run.{taken, EndsWith}
 use Rattle.filestore_cli.proofs.run.make_store.Goals as goal

@@ -1,4 +1,4 @@
-use Rattle.std.proofs.Common.{rules, ◌≡◌, ◌∙◌, List, ℕ, [], ap, sym, subst, refl, arith}
+use Rattle.std.proofs.Common.{◌∙◌, [], ap, sym, subst, arith}
 use Rattle.txn_journal.specs.declared.fault.MountFault.{MountFault}
 use Rattle.txn_journal.specs.Held.{Holds, contents_of}
 use Rattle.filestore_cli.specs.Kept.{Store, store_on}

@@ -1,4 +1,4 @@
-use Rattle.std.proofs.Common.{rules, inr, subst}
+use Rattle.std.proofs.Common.{inr, subst}
 use Rattle.fs_script.specs.Answers.{answers_text}
 use Rattle.filestore_cli.specs.declared.run.TheConstants.{DEVICE_LINE, MEMORY_LINE}
 use Rattle.filestore_cli.specs.Run.{taken, Writes, Cut, Stopped}

@@ -1,4 +1,4 @@
-use Rattle.std.proofs.Common.{rules, ◌≡◌, ◌∙◌, ap, sym, subst, refl, arith}
+use Rattle.std.proofs.Common.{◌∙◌, refl, arith}
 use Rattle.filestore_cli.proofs.Runs.{going_first, going_more, going_stopped, going_cut, all_written, all_survive, at}
 use Rattle.filestore_cli.proofs.run.run_script.Goals as goal
 

@@ -1,4 +1,4 @@
-use Rattle.std.proofs.Common.{rules, ◌≡◌, ◌∙◌, List, [], ap, sym, subst, refl, arith}
+use Rattle.std.proofs.Common.{List, [], ap, sym, subst}
 use Rattle.fs_model.specs.declared.op.Op.{Op}
 use Rattle.ring_journal.specs.State.{State}
 use Rattle.txn_journal.specs.History.{more}

@@ -1,4 +1,4 @@
-use Rattle.std.proofs.Common.{rules, ◌≡◌, ◌∙◌, ℕ, List, ap, sym, subst, refl, arith}
+use Rattle.std.proofs.Common.{◌≡◌, ◌∙◌, ℕ, List, ap, sym, subst}
 use Rattle.std.specs.List.{flat_map, AllByRecursion}
 use Rattle.dev_api.specs.Run.{Keeps}
 use Rattle.fs_model.specs.declared.op.Txn.{Txn}
