@@ -1,4 +1,5 @@
-ghost use Rattle.std.specs.Prelude.{◌≡◌, ◌≤◌, IfOk, is_err, length};
+ghost use Rattle.std.specs.Prelude.{◌≡◌, ◌≤◌, IfOk, IsErr, is_err, length};
+ghost use Rattle.tree_api.specs.Disk.{Quiet, Looked, CountsSync};
 ghost use Rattle.tree_real.specs.Counts.{was_refused, counted, looked, synced, untold};
 
 use crate::layout::Layout;
@@ -70,9 +71,11 @@ impl<R: Files + AllocGlobal + Clone + Drop> RealTree<R> {
     }
 
     // Counts a fault where this was refused.
+    #[tactic(auto, using(crate::proofs::Quiet::rules))]
     fn counted<T>(&mut self, done: Result<T, TreeError>) -> Result<T, TreeError>
         ensures same { result ≡ done }
-        ensures counts { self.new ≡ counted self.old (was_refused result) }
+        ensures counts { Quiet (untold self.old) (untold self.new) result }
+        ensures exact { self.new ≡ counted self.old (was_refused result) }
     {
         if matches!(done, Err(TreeError::Refused)) {
             self.faults.rise();
@@ -80,9 +83,20 @@ impl<R: Files + AllocGlobal + Clone + Drop> RealTree<R> {
         done
     }
 
+    // The same after a look.
+    #[tactic(auto, using(crate::proofs::Quiet::rules))]
+    fn looked<T>(&mut self, done: Result<T, TreeError>) -> Result<T, TreeError>
+        ensures counts { Looked ⊥ (untold self.old) (untold self.new) result }
+        ensures exact { self.new ≡ looked self.old (was_refused result) }
+    {
+        self.looks.rise();
+        self.counted(done)
+    }
+
     // The same after a change.
     fn changed(&mut self, done: Result<(), TreeError>) -> Result<(), TreeError>
-        ensures counts { self.new ≡ counted self.old (was_refused result) }
+        ensures counts { Quiet (untold self.old) (untold self.new) result }
+        ensures exact { self.new ≡ counted self.old (was_refused result) }
     {
         if matches!(done, Err(TreeError::Refused)) {
             self.unsure = true;
@@ -99,51 +113,56 @@ impl<R: Files + AllocGlobal + Clone + Drop> FileTree for RealTree<R> {
     ghost sound = { λ told t. absurd told };
 
     fn stat(&mut self, path: &TreePath) -> Result<Option<Stat>, TreeError>
-        ensures looks { self.new ≡ looked self.old (was_refused result) }
+        ensures counts { Looked ⊥ (untold self.old) (untold self.new) result }
+        ensures exact { self.new ≡ looked self.old (was_refused result) }
     {
-        self.looks.rise();
         let done = nodes::stat(&self.rt, &self.layout, path);
-        self.counted(done)
+        self.looked(done)
     }
 
     fn list(&mut self, dir: &TreePath) -> Result<Vec<Entry>, TreeError>
-        ensures looks { self.new ≡ looked self.old (was_refused result) }
+        ensures counts { Looked ⊥ (untold self.old) (untold self.new) result }
+        ensures exact { self.new ≡ looked self.old (was_refused result) }
     {
-        self.looks.rise();
         let done = nodes::list(&self.rt, &self.layout, dir);
-        self.counted(done)
+        self.looked(done)
     }
 
     fn make_dir(&mut self, path: &TreePath) -> Result<(), TreeError>
-        ensures faults { self.new ≡ counted self.old (was_refused result) }
+        ensures counts { Quiet (untold self.old) (untold self.new) result }
+        ensures exact { self.new ≡ counted self.old (was_refused result) }
     {
         let done = nodes::make_dir(&self.rt, &self.layout, path);
         self.changed(done)
     }
 
     fn create(&mut self, path: &TreePath) -> Result<(), TreeError>
-        ensures faults { self.new ≡ counted self.old (was_refused result) }
+        ensures counts { Quiet (untold self.old) (untold self.new) result }
+        ensures exact { self.new ≡ counted self.old (was_refused result) }
     {
         let done = nodes::create(&self.rt, &self.layout, path);
         self.changed(done)
     }
 
     fn remove_file(&mut self, path: &TreePath) -> Result<(), TreeError>
-        ensures faults { self.new ≡ counted self.old (was_refused result) }
+        ensures counts { Quiet (untold self.old) (untold self.new) result }
+        ensures exact { self.new ≡ counted self.old (was_refused result) }
     {
         let done = nodes::remove_file(&self.rt, &self.layout, path);
         self.changed(done)
     }
 
     fn remove_dir(&mut self, path: &TreePath) -> Result<(), TreeError>
-        ensures faults { self.new ≡ counted self.old (was_refused result) }
+        ensures counts { Quiet (untold self.old) (untold self.new) result }
+        ensures exact { self.new ≡ counted self.old (was_refused result) }
     {
         let done = nodes::remove_dir(&self.rt, &self.layout, path);
         self.changed(done)
     }
 
     fn rename(&mut self, from: &TreePath, to: &TreePath) -> Result<(), TreeError>
-        ensures faults { self.new ≡ counted self.old (was_refused result) }
+        ensures counts { Quiet (untold self.old) (untold self.new) result }
+        ensures exact { self.new ≡ counted self.old (was_refused result) }
     {
         let done = moves::rename(&self.rt, &self.layout, from, to);
         self.changed(done)
@@ -151,56 +170,64 @@ impl<R: Files + AllocGlobal + Clone + Drop> FileTree for RealTree<R> {
 
     fn read_at(&mut self, path: &TreePath, at: u64, into: &mut [u8]) -> Result<usize, TreeError>
         ensures within { IfOk result (λ n. n ≤ length into.old) }
-        ensures faults { self.new ≡ counted self.old (was_refused result) }
+        ensures counts { Quiet (untold self.old) (untold self.new) result }
+        ensures exact { self.new ≡ counted self.old (was_refused result) }
     {
         let done = nodes::read_at(&self.rt, &self.layout, path, at, into);
         self.counted(done)
     }
 
     fn write_at(&mut self, path: &TreePath, at: u64, bytes: &[u8]) -> Result<(), TreeError>
-        ensures faults { self.new ≡ counted self.old (was_refused result) }
+        ensures counts { Quiet (untold self.old) (untold self.new) result }
+        ensures exact { self.new ≡ counted self.old (was_refused result) }
     {
         let done = nodes::write_at(&self.rt, &self.layout, path, at, bytes);
         self.changed(done)
     }
 
     fn set_len(&mut self, path: &TreePath, len: u64) -> Result<(), TreeError>
-        ensures faults { self.new ≡ counted self.old (was_refused result) }
+        ensures counts { Quiet (untold self.old) (untold self.new) result }
+        ensures exact { self.new ≡ counted self.old (was_refused result) }
     {
         let done = nodes::set_len(&self.rt, &self.layout, path, len);
         self.changed(done)
     }
 
     fn attr(&mut self, path: &TreePath, name: &[u8]) -> Result<Option<Vec<u8>>, TreeError>
-        ensures faults { self.new ≡ counted self.old (was_refused result) }
+        ensures counts { Quiet (untold self.old) (untold self.new) result }
+        ensures exact { self.new ≡ counted self.old (was_refused result) }
     {
         let done = attrs::attr(&self.rt, &self.layout, path, name);
         self.counted(done)
     }
 
     fn set_attr(&mut self, path: &TreePath, name: &[u8], value: &[u8]) -> Result<(), TreeError>
-        ensures faults { self.new ≡ counted self.old (was_refused result) }
+        ensures counts { Quiet (untold self.old) (untold self.new) result }
+        ensures exact { self.new ≡ counted self.old (was_refused result) }
     {
         let done = attrs::set_attr(&self.rt, &self.layout, path, name, value);
         self.changed(done)
     }
 
     fn remove_attr(&mut self, path: &TreePath, name: &[u8]) -> Result<(), TreeError>
-        ensures faults { self.new ≡ counted self.old (was_refused result) }
+        ensures counts { Quiet (untold self.old) (untold self.new) result }
+        ensures exact { self.new ≡ counted self.old (was_refused result) }
     {
         let done = attrs::remove_attr(&self.rt, &self.layout, path, name);
         self.changed(done)
     }
 
     fn attrs(&mut self, path: &TreePath) -> Result<Vec<AttrName>, TreeError>
-        ensures faults { self.new ≡ counted self.old (was_refused result) }
+        ensures counts { Quiet (untold self.old) (untold self.new) result }
+        ensures exact { self.new ≡ counted self.old (was_refused result) }
     {
         let done = attrs::names(&self.rt, &self.layout, path);
         self.counted(done)
     }
 
     fn sync_file(&mut self, path: &TreePath) -> Result<(), TreeError>
-        ensures faults { self.new ≡ counted self.old (was_refused result) }
+        ensures counts { Quiet (untold self.old) (untold self.new) result }
+        ensures exact { self.new ≡ counted self.old (was_refused result) }
     {
         let done = if self.unsure {
             Err(TreeError::Refused)
@@ -211,14 +238,16 @@ impl<R: Files + AllocGlobal + Clone + Drop> FileTree for RealTree<R> {
     }
 
     fn sync_names(&mut self) -> Result<(), TreeError>
-        ensures faults { self.new ≡ counted self.old (was_refused result) }
+        ensures counts { Quiet (untold self.old) (untold self.new) result }
+        ensures exact { self.new ≡ counted self.old (was_refused result) }
     {
         let done = if self.unsure { Err(TreeError::Refused) } else { Ok(()) };
         self.changed(done)
     }
 
     fn sync_all(&mut self) -> Result<(), Failed>
-        ensures syncs { self.new ≡ synced self.old (is_err result) }
+        ensures counts { CountsSync (untold self.old) (untold self.new) (IsErr result) }
+        ensures exact { self.new ≡ synced self.old (is_err result) }
     {
         self.syncs.rise();
         if self.unsure {
@@ -233,25 +262,29 @@ impl<R: Files + AllocGlobal + Clone + Drop> FileTree for RealTree<R> {
     }
 
     fn snapshot(&mut self, seq: u64) -> Result<(), TreeError>
-        ensures faults { self.new ≡ counted self.old (was_refused result) }
+        ensures counts { Quiet (untold self.old) (untold self.new) result }
+        ensures exact { self.new ≡ counted self.old (was_refused result) }
     {
         self.counted(Err(TreeError::Refused))
     }
 
     fn rollback(&mut self, seq: u64) -> Result<(), TreeError>
-        ensures faults { self.new ≡ counted self.old (was_refused result) }
+        ensures counts { Quiet (untold self.old) (untold self.new) result }
+        ensures exact { self.new ≡ counted self.old (was_refused result) }
     {
         self.counted(Err(TreeError::Refused))
     }
 
     fn drop_snapshot(&mut self, seq: u64) -> Result<(), TreeError>
-        ensures faults { self.new ≡ counted self.old (was_refused result) }
+        ensures counts { Quiet (untold self.old) (untold self.new) result }
+        ensures exact { self.new ≡ counted self.old (was_refused result) }
     {
         self.counted(Err(TreeError::Refused))
     }
 
     fn snapshots(&mut self) -> Result<Vec<u64>, TreeError>
-        ensures faults { self.new ≡ counted self.old (was_refused result) }
+        ensures counts { Quiet (untold self.old) (untold self.new) result }
+        ensures exact { self.new ≡ counted self.old (was_refused result) }
     {
         Ok(Vec::new(self.rt.alloc()))
     }
