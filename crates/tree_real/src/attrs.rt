@@ -61,7 +61,10 @@ pub fn names<R: Files + AllocGlobal + Clone + Drop>(
     let mut found = BTreeSet::new(rt.alloc());
     let mut todo = Vec::new(rt.alloc());
     if disk::look(rt, &dir).map_err(fault)?.is_some() {
-        todo.push(Folder { path: dir, begin: Vec::new(rt.alloc()) })?;
+        todo.push(Folder {
+            path: dir,
+            begin: Vec::new(rt.alloc()),
+        })?;
     }
     for _ in 0..u64::MAX {
         let Some(folder) = todo.pop() else {

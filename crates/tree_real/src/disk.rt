@@ -2,11 +2,10 @@
 ghost use Rattle.std.specs.Prelude.{◌≤◌, length, IfOk};
 
 use crate::layout::above;
-use std::fs;
 use std::fs::{Metadata, OpenFile, OpenOptions};
-use std::io;
 use std::io::{ErrorKind, Read, Seek, SeekFrom, Write};
 use std::rt::Files;
+use std::{fs, io};
 
 /// What stands at this path, or none.
 pub fn look(rt: &impl Files, path: &str) -> io::Result<Option<Metadata>> {
@@ -36,7 +35,9 @@ pub fn make_dirs(rt: &impl Files, path: &str) -> io::Result<()> {
         return Ok(());
     }
     for end in 1..path.len() {
-        if let Some((dir, rest)) = path.split_at_checked(end) && rest.starts_with('/') {
+        if let Some((dir, rest)) = path.split_at_checked(end)
+            && rest.starts_with('/')
+        {
             make_missing(rt, dir)?;
         }
     }

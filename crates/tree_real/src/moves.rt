@@ -6,9 +6,8 @@ use crate::disk;
 use crate::layout::{Layout, Place, above};
 use crate::nodes::{cut_off, fault};
 use std::alloc::{AllocError, Global};
-use std::fs;
-use std::io;
 use std::rt::Files;
+use std::{fs, io};
 use tree_api::{TreeError, TreePath};
 
 // The file `move` below the root: a node that moves, its side folder or an empty line where it has none, and where that
@@ -21,18 +20,38 @@ struct Note {
 }
 
 impl Note {
-    fn new(alloc: Global, layout: &Layout, from: &Place, to: &Place, has_side: bool) -> Result<Note, AllocError> {
-        let side = if has_side { layout.inside(&from.side) } else { "" };
+    fn new(
+        alloc: Global,
+        layout: &Layout,
+        from: &Place,
+        to: &Place,
+        has_side: bool,
+    ) -> Result<Note, AllocError> {
+        let side = if has_side {
+            layout.inside(&from.side)
+        } else {
+            ""
+        };
         Ok(Note {
             file: layout.below("move")?,
             new: layout.below("move.new")?,
-            text: format!(in alloc; "{}\n{}\n{}\n", layout.inside(&from.node), side, layout.inside(&to.side))?,
+            text: format!(in alloc;
+                "{}\n{}\n{}\n",
+                layout.inside(&from.node),
+                side,
+                layout.inside(&to.side)
+            )?,
         })
     }
 }
 
 /// A node moves, and its side folder follows.
-pub fn rename<R: Files + AllocGlobal>(rt: &R, layout: &Layout, from: &TreePath, to: &TreePath) -> Result<(), TreeError> {
+pub fn rename<R: Files + AllocGlobal>(
+    rt: &R,
+    layout: &Layout,
+    from: &TreePath,
+    to: &TreePath,
+) -> Result<(), TreeError> {
     let old = layout.place(from)?;
     let new = layout.place(to)?;
     let has_side = disk::look(rt, &old.side).map_err(fault)?.is_some();
@@ -45,7 +64,13 @@ pub fn rename<R: Files + AllocGlobal>(rt: &R, layout: &Layout, from: &TreePath, 
     move_noted(rt, &note, &old, &new, has_side).map_err(cut_off)
 }
 
-fn move_noted(rt: &(impl Files + AllocGlobal), note: &Note, old: &Place, new: &Place, has_side: bool) -> io::Result<()> {
+fn move_noted(
+    rt: &(impl Files + AllocGlobal),
+    note: &Note,
+    old: &Place,
+    new: &Place,
+    has_side: bool,
+) -> io::Result<()> {
     disk::replace(rt, &note.file, &note.new, note.text.as_bytes())?;
     let moved = fs::rename(rt, &old.node, &new.node);
     if moved.is_err() {
@@ -53,7 +78,11 @@ fn move_noted(rt: &(impl Files + AllocGlobal), note: &Note, old: &Place, new: &P
         return moved;
     }
     let synced = disk::sync_both(rt, &old.node, &new.node);
-    let side = if has_side { Some(old.side.as_str()) } else { None };
+    let side = if has_side {
+        Some(old.side.as_str())
+    } else {
+        None
+    };
     follow(rt, side, &new.side)?;
     disk::remove_file(rt, &note.file)?;
     synced
@@ -86,12 +115,26 @@ pub fn finish<R: Files + AllocGlobal>(rt: &R, layout: &Layout) -> io::Result<()>
     disk::remove_file(rt, &note)
 }
 
-fn finish_move<R: Files + AllocGlobal>(rt: &R, layout: &Layout, node: &str, from: &str, to: &str) -> io::Result<()> {
+fn finish_move<R: Files + AllocGlobal>(
+    rt: &R,
+    layout: &Layout,
+    node: &str,
+    from: &str,
+    to: &str,
+) -> io::Result<()> {
     let node = layout.outside(node)?;
     if disk::look(rt, &node)?.is_some() {
         return Ok(());
     }
     let side = layout.outside(from)?;
     let to = layout.outside(to)?;
-    follow(rt, if from.is_empty() { None } else { Some(side.as_str()) }, &to)
+    follow(
+        rt,
+        if from.is_empty() {
+            None
+        } else {
+            Some(side.as_str())
+        },
+        &to,
+    )
 }

@@ -4,11 +4,10 @@ ghost use Rattle.std.specs.Prelude.{◌≤◌, length, IfOk};
 use crate::disk;
 use crate::layout::{Layout, above};
 use std::collections::BTreeMap;
-use std::fs;
 use std::fs::Metadata;
-use std::io;
 use std::io::ErrorKind;
 use std::rt::Files;
+use std::{fs, io};
 use tree_api::{Bytes, Entry, Kind, Stat, TreeError, TreePath, is_step};
 
 /// Why a reading gave up.
@@ -58,10 +57,7 @@ pub fn list<R: Files + AllocGlobal + Clone + Drop>(
     for entry in fs::read_dir(rt, &node).map_err(fault)? {
         let entry = entry.map_err(fault)?;
         let kind = kind_of(&entry.metadata().map_err(fault)?)?;
-        found.insert(
-            Bytes::new(rt.alloc(), entry.file_name().as_bytes())?,
-            kind,
-        )?;
+        found.insert(Bytes::new(rt.alloc(), entry.file_name().as_bytes())?, kind)?;
     }
     let root = TreePath::root(rt.alloc());
     let mut entries = Vec::new(rt.alloc());

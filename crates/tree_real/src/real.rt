@@ -241,7 +241,11 @@ impl<R: Files + AllocGlobal + Clone + Drop> FileTree for RealTree<R> {
         ensures counts { Quiet (untold self.old) (untold self.new) result }
         ensures exact { self.new ≡ counted self.old (was_refused result) }
     {
-        let done = if self.unsure { Err(TreeError::Refused) } else { Ok(()) };
+        let done = if self.unsure {
+            Err(TreeError::Refused)
+        } else {
+            Ok(())
+        };
         self.changed(done)
     }
 
