@@ -1,5 +1,5 @@
--- What is known of a tree on a real file system: its counts.
-use Rattle.std.specs.Prelude.{ℕ, Bool, true, false, if◌then◌else◌, None, Result, Ok, Err}
+-- What is known of a tree on a real file system: its counts, and whether it may answer a sync.
+use Rattle.std.specs.Prelude.{ℕ, Bool, true, false, ◌||◌, if◌then◌else◌, None, Result, Ok, Err}
 use Rattle.fault_count.specs.Counted.{one_more}
 use Rattle.tree_api.specs.Tree.{new_dir}
 use Rattle.tree_api.specs.Disk.{Disk}
@@ -10,6 +10,8 @@ pub record Counts : Type 0 where
   pub faults : ℕ
   pub syncs : ℕ
   pub looks : ℕ
+  -- a change was refused, so what is stable isn't known
+  pub unsure : Bool
 
 -- whether a call was refused
 abbrev pub was_refused : {T : Type 0} → Result T TreeError → Bool
@@ -19,6 +21,10 @@ was_refused _ = false
 -- one fault more where a call was refused
 abbrev pub counted : Counts → Bool → Counts
 counted old refused = record old { faults = if refused then one_more old.faults else old.faults }
+
+-- the same after a change
+abbrev pub changed : Counts → Bool → Counts
+changed old refused = record (counted old refused) { unsure = old.unsure || refused }
 
 -- and one look more
 abbrev pub looked : Counts → Bool → Counts

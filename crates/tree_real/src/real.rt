@@ -1,6 +1,7 @@
-ghost use Rattle.std.specs.Prelude.{◌≡◌, ◌≤◌, IfOk, IsErr, is_err, length};
+ghost use Rattle.std.specs.Prelude.{◌≡◌, ◌≤◌, [], false, Ok, Err, if◌then◌else◌, length, is_err, IfOk, IsOk, IsErr, IsTrue};
+ghost use Rattle.tree_api.specs.declared.tree.TreeError.TheVariants.{Refused};
 ghost use Rattle.tree_api.specs.Disk.{Quiet, Looked, CountsSync};
-ghost use Rattle.tree_real.specs.Counts.{was_refused, counted, looked, synced, untold};
+ghost use Rattle.tree_real.specs.Counts.{was_refused, counted, changed, looked, synced, untold};
 
 use crate::layout::Layout;
 use crate::{attrs, disk, moves, nodes};
@@ -34,7 +35,7 @@ impl<R: Files> Model for RealTree<R> {
 
     ghost Value = { Counts };
 
-    ghost view = { λ t. record { faults = t.faults; syncs = t.syncs; looks = t.looks } };
+    ghost view = { λ t. record { faults = t.faults; syncs = t.syncs; looks = t.looks; unsure = t.unsure } };
 
     ghost invariant = { λ t. (t.faults < 2 ^ 64) × (t.looks < 2 ^ 64) };
 }
@@ -48,10 +49,16 @@ fn open<R: Files + AllocGlobal>(rt: &R, layout: &Layout) -> io::Result<()> {
     moves::finish(rt, layout)
 }
 
+fn is_refused<T>(done: &Result<T, TreeError>) -> bool
+    ensures { result ≡ was_refused done.now }
+{
+    matches!(done, Err(TreeError::Refused))
+}
+
 impl<R: Files + AllocGlobal + Clone + Drop> RealTree<R> {
     /// The tree below this folder, which is made where it is missing.
     pub fn at(rt: R, root: &str) -> Result<Self, EdgeFault>
-        ensures { IfOk result (λ t. t ≡ record { faults = 0; syncs = 0; looks = 0 }) }
+        ensures { IfOk result (λ t. t ≡ record { faults = 0; syncs = 0; looks = 0; unsure = false }) }
     {
         let Ok(layout) = Layout::new(rt.alloc(), root) else {
             return Err(EdgeFault::Memory);
@@ -77,7 +84,7 @@ impl<R: Files + AllocGlobal + Clone + Drop> RealTree<R> {
         ensures counts { Quiet (untold self.old) (untold self.new) result }
         ensures exact { self.new ≡ counted self.old (was_refused result) }
     {
-        if matches!(done, Err(TreeError::Refused)) {
+        if is_refused(&done) {
             self.faults.rise();
         }
         done
@@ -95,12 +102,11 @@ impl<R: Files + AllocGlobal + Clone + Drop> RealTree<R> {
 
     // The same after a change.
     fn changed(&mut self, done: Result<(), TreeError>) -> Result<(), TreeError>
+        ensures same { result ≡ done }
         ensures counts { Quiet (untold self.old) (untold self.new) result }
-        ensures exact { self.new ≡ counted self.old (was_refused result) }
+        ensures exact { self.new ≡ changed self.old (was_refused result) }
     {
-        if matches!(done, Err(TreeError::Refused)) {
-            self.unsure = true;
-        }
+        self.unsure = self.unsure || is_refused(&done);
         self.counted(done)
     }
 }
@@ -130,7 +136,7 @@ impl<R: Files + AllocGlobal + Clone + Drop> FileTree for RealTree<R> {
 
     fn make_dir(&mut self, path: &TreePath) -> Result<(), TreeError>
         ensures counts { Quiet (untold self.old) (untold self.new) result }
-        ensures exact { self.new ≡ counted self.old (was_refused result) }
+        ensures exact { self.new ≡ changed self.old (was_refused result) }
     {
         let done = nodes::make_dir(&self.rt, &self.layout, path);
         self.changed(done)
@@ -138,7 +144,7 @@ impl<R: Files + AllocGlobal + Clone + Drop> FileTree for RealTree<R> {
 
     fn create(&mut self, path: &TreePath) -> Result<(), TreeError>
         ensures counts { Quiet (untold self.old) (untold self.new) result }
-        ensures exact { self.new ≡ counted self.old (was_refused result) }
+        ensures exact { self.new ≡ changed self.old (was_refused result) }
     {
         let done = nodes::create(&self.rt, &self.layout, path);
         self.changed(done)
@@ -146,7 +152,7 @@ impl<R: Files + AllocGlobal + Clone + Drop> FileTree for RealTree<R> {
 
     fn remove_file(&mut self, path: &TreePath) -> Result<(), TreeError>
         ensures counts { Quiet (untold self.old) (untold self.new) result }
-        ensures exact { self.new ≡ counted self.old (was_refused result) }
+        ensures exact { self.new ≡ changed self.old (was_refused result) }
     {
         let done = nodes::remove_file(&self.rt, &self.layout, path);
         self.changed(done)
@@ -154,7 +160,7 @@ impl<R: Files + AllocGlobal + Clone + Drop> FileTree for RealTree<R> {
 
     fn remove_dir(&mut self, path: &TreePath) -> Result<(), TreeError>
         ensures counts { Quiet (untold self.old) (untold self.new) result }
-        ensures exact { self.new ≡ counted self.old (was_refused result) }
+        ensures exact { self.new ≡ changed self.old (was_refused result) }
     {
         let done = nodes::remove_dir(&self.rt, &self.layout, path);
         self.changed(done)
@@ -162,7 +168,7 @@ impl<R: Files + AllocGlobal + Clone + Drop> FileTree for RealTree<R> {
 
     fn rename(&mut self, from: &TreePath, to: &TreePath) -> Result<(), TreeError>
         ensures counts { Quiet (untold self.old) (untold self.new) result }
-        ensures exact { self.new ≡ counted self.old (was_refused result) }
+        ensures exact { self.new ≡ changed self.old (was_refused result) }
     {
         let done = moves::rename(&self.rt, &self.layout, from, to);
         self.changed(done)
@@ -179,7 +185,7 @@ impl<R: Files + AllocGlobal + Clone + Drop> FileTree for RealTree<R> {
 
     fn write_at(&mut self, path: &TreePath, at: u64, bytes: &[u8]) -> Result<(), TreeError>
         ensures counts { Quiet (untold self.old) (untold self.new) result }
-        ensures exact { self.new ≡ counted self.old (was_refused result) }
+        ensures exact { self.new ≡ changed self.old (was_refused result) }
     {
         let done = nodes::write_at(&self.rt, &self.layout, path, at, bytes);
         self.changed(done)
@@ -187,7 +193,7 @@ impl<R: Files + AllocGlobal + Clone + Drop> FileTree for RealTree<R> {
 
     fn set_len(&mut self, path: &TreePath, len: u64) -> Result<(), TreeError>
         ensures counts { Quiet (untold self.old) (untold self.new) result }
-        ensures exact { self.new ≡ counted self.old (was_refused result) }
+        ensures exact { self.new ≡ changed self.old (was_refused result) }
     {
         let done = nodes::set_len(&self.rt, &self.layout, path, len);
         self.changed(done)
@@ -203,7 +209,7 @@ impl<R: Files + AllocGlobal + Clone + Drop> FileTree for RealTree<R> {
 
     fn set_attr(&mut self, path: &TreePath, name: &[u8], value: &[u8]) -> Result<(), TreeError>
         ensures counts { Quiet (untold self.old) (untold self.new) result }
-        ensures exact { self.new ≡ counted self.old (was_refused result) }
+        ensures exact { self.new ≡ changed self.old (was_refused result) }
     {
         let done = attrs::set_attr(&self.rt, &self.layout, path, name, value);
         self.changed(done)
@@ -211,7 +217,7 @@ impl<R: Files + AllocGlobal + Clone + Drop> FileTree for RealTree<R> {
 
     fn remove_attr(&mut self, path: &TreePath, name: &[u8]) -> Result<(), TreeError>
         ensures counts { Quiet (untold self.old) (untold self.new) result }
-        ensures exact { self.new ≡ counted self.old (was_refused result) }
+        ensures exact { self.new ≡ changed self.old (was_refused result) }
     {
         let done = attrs::remove_attr(&self.rt, &self.layout, path, name);
         self.changed(done)
@@ -227,7 +233,8 @@ impl<R: Files + AllocGlobal + Clone + Drop> FileTree for RealTree<R> {
 
     fn sync_file(&mut self, path: &TreePath) -> Result<(), TreeError>
         ensures counts { Quiet (untold self.old) (untold self.new) result }
-        ensures exact { self.new ≡ counted self.old (was_refused result) }
+        ensures exact { self.new ≡ changed self.old (was_refused result) }
+        ensures unsure { IsTrue self.old.unsure → result ≡ Err Refused }
     {
         let done = if self.unsure {
             Err(TreeError::Refused)
@@ -239,26 +246,25 @@ impl<R: Files + AllocGlobal + Clone + Drop> FileTree for RealTree<R> {
 
     fn sync_names(&mut self) -> Result<(), TreeError>
         ensures counts { Quiet (untold self.old) (untold self.new) result }
-        ensures exact { self.new ≡ counted self.old (was_refused result) }
+        ensures exact { self.new ≡ changed self.old (was_refused result) }
+        ensures unsure { result ≡ (if self.old.unsure then Err Refused else Ok tt) }
     {
-        let done = if self.unsure {
-            Err(TreeError::Refused)
-        } else {
-            Ok(())
-        };
-        self.changed(done)
+        if self.unsure {
+            return self.changed(Err(TreeError::Refused));
+        }
+        Ok(())
     }
 
     fn sync_all(&mut self) -> Result<(), Failed>
         ensures counts { CountsSync (untold self.old) (untold self.new) (IsErr result) }
         ensures exact { self.new ≡ synced self.old (is_err result) }
+        ensures unsure { is_err result ≡ self.old.unsure }
     {
         self.syncs.rise();
-        if self.unsure {
-            self.faults.rise();
-            return Err(Failed);
+        match self.sync_names() {
+            Ok(()) => Ok(()),
+            Err(_) => Err(Failed),
         }
-        Ok(())
     }
 
     fn checkpoints(&self) -> bool {
@@ -267,6 +273,7 @@ impl<R: Files + AllocGlobal + Clone + Drop> FileTree for RealTree<R> {
 
     fn snapshot(&mut self, seq: u64) -> Result<(), TreeError>
         ensures counts { Quiet (untold self.old) (untold self.new) result }
+        ensures refused { result ≡ Err Refused }
         ensures exact { self.new ≡ counted self.old (was_refused result) }
     {
         self.counted(Err(TreeError::Refused))
@@ -274,6 +281,7 @@ impl<R: Files + AllocGlobal + Clone + Drop> FileTree for RealTree<R> {
 
     fn rollback(&mut self, seq: u64) -> Result<(), TreeError>
         ensures counts { Quiet (untold self.old) (untold self.new) result }
+        ensures refused { result ≡ Err Refused }
         ensures exact { self.new ≡ counted self.old (was_refused result) }
     {
         self.counted(Err(TreeError::Refused))
@@ -281,6 +289,7 @@ impl<R: Files + AllocGlobal + Clone + Drop> FileTree for RealTree<R> {
 
     fn drop_snapshot(&mut self, seq: u64) -> Result<(), TreeError>
         ensures counts { Quiet (untold self.old) (untold self.new) result }
+        ensures refused { result ≡ Err Refused }
         ensures exact { self.new ≡ counted self.old (was_refused result) }
     {
         self.counted(Err(TreeError::Refused))
@@ -288,7 +297,9 @@ impl<R: Files + AllocGlobal + Clone + Drop> FileTree for RealTree<R> {
 
     fn snapshots(&mut self) -> Result<Vec<u64>, TreeError>
         ensures counts { Quiet (untold self.old) (untold self.new) result }
-        ensures exact { self.new ≡ counted self.old (was_refused result) }
+        ensures exact { self.new ≡ self.old }
+        ensures none { IfOk result (λ ks. ks.items ≡ []) }
+        ensures ok { IsOk result }
     {
         Ok(Vec::new(self.rt.alloc()))
     }
