@@ -1,6 +1,5 @@
 -- What a tree's counts say, by the trait's words.
-use Rattle.std.proofs.Common.{◌≡◌, ◌<◌, ◌^◌, ◌∙◌, sym, ap, refl, subst, arith, Result, Ok, Err, IsErrOf}
-use Rattle.fault_count.specs.Counted.{one_more}
+use Rattle.std.proofs.Common.{◌≡◌, ◌<◌, ◌^◌, sym, refl, subst, arith, Result, Ok, Err}
 use Rattle.tree_api.specs.Disk.{Quiet, Looked}
 use Rattle.tree_api.specs.declared.tree.TreeError.{TreeError}
 use Rattle.tree_api.specs.declared.tree.TreeError.TheVariants.{Memory, Refused}

@@ -1,10 +1,10 @@
 -- What is known of a tree on a real file system: its counts, and whether it may answer a sync.
-use Rattle.std.specs.Prelude.{ℕ, Bool, true, false, ◌||◌, if◌then◌else◌, None, Result, Ok, Err}
+use Rattle.std.specs.Prelude.{ℕ, Bool, true, false, ◌||◌, if◌then◌else◌, None, Result, Err}
 use Rattle.fault_count.specs.Counted.{one_more}
 use Rattle.tree_api.specs.Tree.{new_dir}
 use Rattle.tree_api.specs.Disk.{Disk}
 use Rattle.tree_api.specs.declared.tree.TreeError.{TreeError}
-use Rattle.tree_api.specs.declared.tree.TreeError.TheVariants.{Memory, Refused}
+use Rattle.tree_api.specs.declared.tree.TreeError.TheVariants.{Refused}
 
 pub record Counts : Type 0 where
   pub faults : ℕ
