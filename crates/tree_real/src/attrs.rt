@@ -1,0 +1,113 @@
+// Attributes, each a file of its value.
+use crate::disk;
+use crate::layout::{Layout, above, joined};
+use crate::nodes::{cut_off, fault};
+use hex::FromHexError;
+use std::alloc::Global;
+use std::collections::BTreeSet;
+use std::fs;
+use std::rt::Files;
+use tree_api::{AttrName, Bytes, TreeError, TreePath};
+
+pub fn attr<R: Files + AllocGlobal>(
+    rt: &R,
+    layout: &Layout,
+    path: &TreePath,
+    name: &[u8],
+) -> Result<Option<Vec<u8>>, TreeError> {
+    let file = layout.attr(path, name)?;
+    if disk::look(rt, &file).map_err(fault)?.is_none() {
+        return Ok(None);
+    }
+    Ok(Some(fs::read(rt, &file).map_err(fault)?))
+}
+
+pub fn set_attr(
+    rt: &impl Files,
+    layout: &Layout,
+    path: &TreePath,
+    name: &[u8],
+    value: &[u8],
+) -> Result<(), TreeError> {
+    let file = layout.attr(path, name)?;
+    let new = layout.beside(&file)?;
+    disk::make_dirs(rt, above(&file)).map_err(cut_off)?;
+    disk::replace(rt, &file, &new, value).map_err(cut_off)
+}
+
+pub fn remove_attr(
+    rt: &impl Files,
+    layout: &Layout,
+    path: &TreePath,
+    name: &[u8],
+) -> Result<(), TreeError> {
+    let file = layout.attr(path, name)?;
+    disk::remove_file(rt, &file).map_err(cut_off)
+}
+
+// A folder of attributes, whose names begin so.
+#[derive(Drop)]
+struct Folder {
+    path: String,
+    begin: Vec<u8>,
+}
+
+pub fn names<R: Files + AllocGlobal + Clone + Drop>(
+    rt: &R,
+    layout: &Layout,
+    path: &TreePath,
+) -> Result<Vec<AttrName>, TreeError> {
+    let dir = layout.attrs(path)?;
+    let mut found = BTreeSet::new(rt.alloc());
+    let mut todo = Vec::new(rt.alloc());
+    if disk::look(rt, &dir).map_err(fault)?.is_some() {
+        todo.push(Folder {
+            path: dir,
+            begin: Vec::new(rt.alloc()),
+        })?;
+    }
+    for _ in 0..u64::MAX {
+        let Some(folder) = todo.pop() else {
+            break;
+        };
+        read_folder(rt, &folder, &mut found, &mut todo)?;
+    }
+    let mut names = Vec::new(rt.alloc());
+    for bytes in found {
+        names.push(AttrName { bytes })?;
+    }
+    Ok(names)
+}
+
+// The names in a folder, and the folders in it. A file `new` is what a change that was cut off has left.
+fn read_folder<R: Files + AllocGlobal + Clone + Drop>(
+    rt: &R,
+    folder: &Folder,
+    found: &mut BTreeSet<Bytes>,
+    todo: &mut Vec<Folder>,
+) -> Result<(), TreeError> {
+    for entry in fs::read_dir(rt, &folder.path).map_err(fault)? {
+        let entry = entry.map_err(fault)?;
+        let name = entry.file_name();
+        if let Some(digits) = name.strip_prefix('_') {
+            found.insert(Bytes::from_vec(longer(rt.alloc(), &folder.begin, digits)?))?;
+        } else if let Some(digits) = name.strip_prefix('-') {
+            todo.push(Folder {
+                path: joined(rt.alloc(), &folder.path, name)?,
+                begin: longer(rt.alloc(), &folder.begin, digits)?,
+            })?;
+        }
+    }
+    Ok(())
+}
+
+// These bytes, followed by those that the digits spell.
+fn longer(alloc: Global, begin: &[u8], digits: &str) -> Result<Vec<u8>, TreeError> {
+    let mut bytes = Vec::from_slice(alloc, begin)?;
+    match hex::decode(alloc, digits) {
+        Ok(more) => bytes.extend_from_slice(&more)?,
+        Err(FromHexError::OutOfMemory) => return Err(TreeError::Memory),
+        Err(_) => return Err(TreeError::Refused),
+    }
+    Ok(bytes)
+}

@@ -1,0 +1,306 @@
+ghost use Rattle.std.specs.Prelude.{◌≡◌, ◌≤◌, [], false, Ok, Err, if◌then◌else◌, length, is_err, IfOk, IsOk, IsErr, IsTrue};
+ghost use Rattle.tree_api.specs.declared.tree.TreeError.TheVariants.{Refused};
+ghost use Rattle.tree_api.specs.Disk.{Quiet, Looked, CountsSync};
+ghost use Rattle.tree_real.specs.Counts.{was_refused, counted, changed, looked, synced, untold};
+
+use crate::layout::Layout;
+use crate::{attrs, disk, moves, nodes};
+use dev_edge::EdgeFault;
+use fault_count::FaultCount;
+use std::io;
+use std::io::ErrorKind;
+use std::marker::Model;
+use std::rt::Files;
+use tree_api::{AttrName, Entry, Failed, FileTree, Stat, TreeError, TreePath};
+
+/// A tree of files on a real file system.
+///
+/// It keeps no snapshots: each call on one but `snapshots` is refused. A step may be a file's name on this system; one
+/// that may not, as `.` or a step of 300 bytes, is refused.
+#[derive(Drop)]
+pub struct RealTree<R: Files> {
+    // The runtime that the files belong to.
+    rt: R,
+    layout: Layout,
+    faults: FaultCount,
+    syncs: FaultCount,
+    looks: FaultCount,
+    // A change was refused, so what is stable isn't known.
+    unsure: bool,
+}
+
+impl<R: Files> Model for RealTree<R> {
+    ghost use Rattle.std.specs.Prelude.{◌<◌, ◌^◌};
+    ghost use Rattle.tree_real.specs.Counts.{Counts};
+
+    ghost Value = { Counts };
+
+    ghost view = { λ t. record { faults = t.faults; syncs = t.syncs; looks = t.looks; unsure = t.unsure } };
+
+    ghost invariant = { λ t. (t.faults < 2 ^ 64) × (t.looks < 2 ^ 64) };
+}
+
+// Makes the folders where they are missing, and ends a move that was cut off.
+fn open<R: Files + AllocGlobal>(rt: &R, layout: &Layout) -> io::Result<()> {
+    disk::make_dirs(rt, layout.root())?;
+    disk::make_dirs(rt, &layout.below("tree")?)?;
+    disk::make_dirs(rt, &layout.below("side")?)?;
+    disk::make_dirs(rt, &layout.below("snap")?)?;
+    moves::finish(rt, layout)
+}
+
+fn is_refused<T>(done: &Result<T, TreeError>) -> bool
+    ensures { result ≡ was_refused done.now }
+{
+    matches!(done, Err(TreeError::Refused))
+}
+
+impl<R: Files + AllocGlobal + Clone + Drop> RealTree<R> {
+    /// The tree below this folder, which is made where it is missing.
+    pub fn at(rt: R, root: &str) -> Result<Self, EdgeFault>
+        ensures { IfOk result (λ t. t ≡ record { faults = 0; syncs = 0; looks = 0; unsure = false }) }
+    {
+        let Ok(layout) = Layout::new(rt.alloc(), root) else {
+            return Err(EdgeFault::Memory);
+        };
+        match open(&rt, &layout) {
+            Ok(()) => Ok(RealTree {
+                rt,
+                layout,
+                faults: FaultCount::new(),
+                syncs: FaultCount::new(),
+                looks: FaultCount::new(),
+                unsure: false,
+            }),
+            Err(error) if error.kind() == ErrorKind::OutOfMemory => Err(EdgeFault::Memory),
+            Err(_) => Err(EdgeFault::Outside),
+        }
+    }
+
+    // Counts a fault where this was refused.
+    #[tactic(auto, using(crate::proofs::Quiet::rules))]
+    fn counted<T>(&mut self, done: Result<T, TreeError>) -> Result<T, TreeError>
+        ensures same { result ≡ done }
+        ensures counts { Quiet (untold self.old) (untold self.new) result }
+        ensures exact { self.new ≡ counted self.old (was_refused result) }
+    {
+        if is_refused(&done) {
+            self.faults.rise();
+        }
+        done
+    }
+
+    // The same after a look.
+    #[tactic(auto, using(crate::proofs::Quiet::rules))]
+    fn looked<T>(&mut self, done: Result<T, TreeError>) -> Result<T, TreeError>
+        ensures counts { Looked ⊥ (untold self.old) (untold self.new) result }
+        ensures exact { self.new ≡ looked self.old (was_refused result) }
+    {
+        self.looks.rise();
+        self.counted(done)
+    }
+
+    // The same after a change.
+    fn changed(&mut self, done: Result<(), TreeError>) -> Result<(), TreeError>
+        ensures same { result ≡ done }
+        ensures counts { Quiet (untold self.old) (untold self.new) result }
+        ensures exact { self.new ≡ changed self.old (was_refused result) }
+    {
+        self.unsure = self.unsure || is_refused(&done);
+        self.counted(done)
+    }
+}
+
+impl<R: Files + AllocGlobal + Clone + Drop> FileTree for RealTree<R> {
+    ghost tells = { ⊥ };
+
+    ghost disk = { untold };
+
+    ghost sound = { λ told t. absurd told };
+
+    fn stat(&mut self, path: &TreePath) -> Result<Option<Stat>, TreeError>
+        ensures counts { Looked ⊥ (untold self.old) (untold self.new) result }
+        ensures exact { self.new ≡ looked self.old (was_refused result) }
+    {
+        let done = nodes::stat(&self.rt, &self.layout, path);
+        self.looked(done)
+    }
+
+    fn list(&mut self, dir: &TreePath) -> Result<Vec<Entry>, TreeError>
+        ensures counts { Looked ⊥ (untold self.old) (untold self.new) result }
+        ensures exact { self.new ≡ looked self.old (was_refused result) }
+    {
+        let done = nodes::list(&self.rt, &self.layout, dir);
+        self.looked(done)
+    }
+
+    fn make_dir(&mut self, path: &TreePath) -> Result<(), TreeError>
+        ensures counts { Quiet (untold self.old) (untold self.new) result }
+        ensures exact { self.new ≡ changed self.old (was_refused result) }
+    {
+        let done = nodes::make_dir(&self.rt, &self.layout, path);
+        self.changed(done)
+    }
+
+    fn create(&mut self, path: &TreePath) -> Result<(), TreeError>
+        ensures counts { Quiet (untold self.old) (untold self.new) result }
+        ensures exact { self.new ≡ changed self.old (was_refused result) }
+    {
+        let done = nodes::create(&self.rt, &self.layout, path);
+        self.changed(done)
+    }
+
+    fn remove_file(&mut self, path: &TreePath) -> Result<(), TreeError>
+        ensures counts { Quiet (untold self.old) (untold self.new) result }
+        ensures exact { self.new ≡ changed self.old (was_refused result) }
+    {
+        let done = nodes::remove_file(&self.rt, &self.layout, path);
+        self.changed(done)
+    }
+
+    fn remove_dir(&mut self, path: &TreePath) -> Result<(), TreeError>
+        ensures counts { Quiet (untold self.old) (untold self.new) result }
+        ensures exact { self.new ≡ changed self.old (was_refused result) }
+    {
+        let done = nodes::remove_dir(&self.rt, &self.layout, path);
+        self.changed(done)
+    }
+
+    fn rename(&mut self, from: &TreePath, to: &TreePath) -> Result<(), TreeError>
+        ensures counts { Quiet (untold self.old) (untold self.new) result }
+        ensures exact { self.new ≡ changed self.old (was_refused result) }
+    {
+        let done = moves::rename(&self.rt, &self.layout, from, to);
+        self.changed(done)
+    }
+
+    fn read_at(&mut self, path: &TreePath, at: u64, into: &mut [u8]) -> Result<usize, TreeError>
+        ensures within { IfOk result (λ n. n ≤ length into.old) }
+        ensures counts { Quiet (untold self.old) (untold self.new) result }
+        ensures exact { self.new ≡ counted self.old (was_refused result) }
+    {
+        let done = nodes::read_at(&self.rt, &self.layout, path, at, into);
+        self.counted(done)
+    }
+
+    fn write_at(&mut self, path: &TreePath, at: u64, bytes: &[u8]) -> Result<(), TreeError>
+        ensures counts { Quiet (untold self.old) (untold self.new) result }
+        ensures exact { self.new ≡ changed self.old (was_refused result) }
+    {
+        let done = nodes::write_at(&self.rt, &self.layout, path, at, bytes);
+        self.changed(done)
+    }
+
+    fn set_len(&mut self, path: &TreePath, len: u64) -> Result<(), TreeError>
+        ensures counts { Quiet (untold self.old) (untold self.new) result }
+        ensures exact { self.new ≡ changed self.old (was_refused result) }
+    {
+        let done = nodes::set_len(&self.rt, &self.layout, path, len);
+        self.changed(done)
+    }
+
+    fn attr(&mut self, path: &TreePath, name: &[u8]) -> Result<Option<Vec<u8>>, TreeError>
+        ensures counts { Quiet (untold self.old) (untold self.new) result }
+        ensures exact { self.new ≡ counted self.old (was_refused result) }
+    {
+        let done = attrs::attr(&self.rt, &self.layout, path, name);
+        self.counted(done)
+    }
+
+    fn set_attr(&mut self, path: &TreePath, name: &[u8], value: &[u8]) -> Result<(), TreeError>
+        ensures counts { Quiet (untold self.old) (untold self.new) result }
+        ensures exact { self.new ≡ changed self.old (was_refused result) }
+    {
+        let done = attrs::set_attr(&self.rt, &self.layout, path, name, value);
+        self.changed(done)
+    }
+
+    fn remove_attr(&mut self, path: &TreePath, name: &[u8]) -> Result<(), TreeError>
+        ensures counts { Quiet (untold self.old) (untold self.new) result }
+        ensures exact { self.new ≡ changed self.old (was_refused result) }
+    {
+        let done = attrs::remove_attr(&self.rt, &self.layout, path, name);
+        self.changed(done)
+    }
+
+    fn attrs(&mut self, path: &TreePath) -> Result<Vec<AttrName>, TreeError>
+        ensures counts { Quiet (untold self.old) (untold self.new) result }
+        ensures exact { self.new ≡ counted self.old (was_refused result) }
+    {
+        let done = attrs::names(&self.rt, &self.layout, path);
+        self.counted(done)
+    }
+
+    fn sync_file(&mut self, path: &TreePath) -> Result<(), TreeError>
+        ensures counts { Quiet (untold self.old) (untold self.new) result }
+        ensures exact { self.new ≡ changed self.old (was_refused result) }
+        ensures unsure { IsTrue self.old.unsure → result ≡ Err Refused }
+    {
+        let done = if self.unsure {
+            Err(TreeError::Refused)
+        } else {
+            nodes::sync(&self.rt, &self.layout, path)
+        };
+        self.changed(done)
+    }
+
+    fn sync_names(&mut self) -> Result<(), TreeError>
+        ensures counts { Quiet (untold self.old) (untold self.new) result }
+        ensures exact { self.new ≡ changed self.old (was_refused result) }
+        ensures unsure { result ≡ (if self.old.unsure then Err Refused else Ok tt) }
+    {
+        if self.unsure {
+            return self.changed(Err(TreeError::Refused));
+        }
+        Ok(())
+    }
+
+    fn sync_all(&mut self) -> Result<(), Failed>
+        ensures counts { CountsSync (untold self.old) (untold self.new) (IsErr result) }
+        ensures exact { self.new ≡ synced self.old (is_err result) }
+        ensures unsure { is_err result ≡ self.old.unsure }
+    {
+        self.syncs.rise();
+        match self.sync_names() {
+            Ok(()) => Ok(()),
+            Err(_) => Err(Failed),
+        }
+    }
+
+    fn checkpoints(&self) -> bool {
+        false
+    }
+
+    fn snapshot(&mut self, seq: u64) -> Result<(), TreeError>
+        ensures counts { Quiet (untold self.old) (untold self.new) result }
+        ensures refused { result ≡ Err Refused }
+        ensures exact { self.new ≡ counted self.old (was_refused result) }
+    {
+        self.counted(Err(TreeError::Refused))
+    }
+
+    fn rollback(&mut self, seq: u64) -> Result<(), TreeError>
+        ensures counts { Quiet (untold self.old) (untold self.new) result }
+        ensures refused { result ≡ Err Refused }
+        ensures exact { self.new ≡ counted self.old (was_refused result) }
+    {
+        self.counted(Err(TreeError::Refused))
+    }
+
+    fn drop_snapshot(&mut self, seq: u64) -> Result<(), TreeError>
+        ensures counts { Quiet (untold self.old) (untold self.new) result }
+        ensures refused { result ≡ Err Refused }
+        ensures exact { self.new ≡ counted self.old (was_refused result) }
+    {
+        self.counted(Err(TreeError::Refused))
+    }
+
+    fn snapshots(&mut self) -> Result<Vec<u64>, TreeError>
+        ensures counts { Quiet (untold self.old) (untold self.new) result }
+        ensures exact { self.new ≡ self.old }
+        ensures none { IfOk result (λ ks. ks.items ≡ []) }
+        ensures ok { IsOk result }
+    {
+        Ok(Vec::new(self.rt.alloc()))
+    }
+}
