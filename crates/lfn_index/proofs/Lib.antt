@@ -1,0 +1,13 @@
+pub mod Building
+pub mod Endings
+pub mod Entries
+pub mod Gaps
+pub mod LongNames
+pub mod Made
+pub mod Named
+pub mod Places
+pub mod Placing
+pub mod Reading
+pub mod Removing
+pub mod Steps
+pub mod Texts

@@ -1,0 +1,5 @@
+pub mod Changes
+pub mod Directory
+pub mod Entries
+pub mod Fault
+pub mod FileName
