@@ -1,14 +1,15 @@
 -- What the calls leave.
-use Rattle.std.specs.Prelude.{◌≡◌, ◌≢◌, ◌⊎◌, ℕ, ◌<◌, ◌≤◌, ◌+◌, ◌^◌, false, List, [], ◌∷◌, ◌++◌, length, codes, if◌then◌else◌, nat_le, Option, Some, None}
+use Rattle.std.specs.Prelude.{◌≡◌, ◌≢◌, ◌⊎◌, ◌↔◌, ℕ, ◌<◌, ◌≤◌, ◌+◌, ◌^◌, false, List, [], ◌∷◌, ◌++◌, length, codes, if◌then◌else◌, nat_le, Option, Some, None}
 use Rattle.std.specs.Int.{to_be_bytes, w32, w64}
 use Rattle.std.specs.Str.{bytes_eq}
 use Rattle.hex.specs.Hex.{encode_lower}
+use Rattle.fs_names.specs.declared.oid.Oid.{Oid}
 use Rattle.fs_names.specs.declared.settings.Settings.{Settings}
 use Rattle.fs_names.specs.declared.settings.Pos.{Pos}
 use Rattle.tree_api.specs.Tree.{Path, Version, Tree, look, current, file_of, Apart, Beside, Replaced}
 use Rattle.tree_api.specs.Disk.{Disk, Moves, Everywhere, Keeps}
 use Rattle.lfn_index.specs.FileName.{stem, long_name, HasStem}
-use Rattle.lfn_index.specs.Directory.{lfn_name, entry, HasFile}
+use Rattle.lfn_index.specs.Directory.{lfn_name, entry, HasFile, IsFileOf}
 
 -- where files are built
 abbrev pub aside : Path
@@ -80,6 +81,10 @@ LongNamed set dir t =
 -- in no image does a file of a directory that has a long name lack its text
 abbrev pub KeepsNamed : Settings → Disk → Disk → Type 0
 KeepsNamed set old new = (dir : Path) → dir ≢ aside → Everywhere old (LongNamed set dir) → Keeps (LongNamed set dir) old new
+
+-- the files of other objects in the directory stay
+abbrev pub KeepsOthers : Settings → Path → Oid → Tree → Tree → Type 0
+KeepsOthers set dir oid t now = (o : Oid) (step : List ℕ) (n : ℕ) → o ≢ oid → IsFileOf set t dir o step n ↔ IsFileOf set now dir o step n
 
 -- the new file stands there, and none aside
 pub record MadeAt (set : Settings) (place : Path) (t now : Tree) (dir : Path) (text : List ℕ) (p : Path) : Type 0 where

@@ -3,3 +3,5 @@ pub mod Directory
 pub mod Entries
 pub mod Fault
 pub mod FileName
+pub mod Listing
+pub mod Subdirs

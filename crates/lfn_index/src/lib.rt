@@ -8,11 +8,13 @@
 mod aside;
 mod fault;
 mod file_name;
+mod listing;
 mod lookup;
 mod making;
 mod removal;
 
 pub use fault::IndexFault;
+pub use listing::{Found, names};
 pub use lookup::find;
 pub use making::make;
 pub use removal::unlink;

@@ -8,7 +8,7 @@ ghost use Rattle.tree_api.specs.Disk.{HasCause as TreeCause};
 ghost use Rattle.lfn_index.specs.FileName.{long_name};
 ghost use Rattle.lfn_index.specs.Directory.{IsAbsent, Reads, entry};
 ghost use Rattle.lfn_index.specs.Entries.{Adds, AreNumbers, IsLeastOf};
-ghost use Rattle.lfn_index.specs.Changes.{aside, aside_at, IsLeast, Costs, MadeAt, MakesAt, KeepsNamed};
+ghost use Rattle.lfn_index.specs.Changes.{aside, aside_at, IsLeast, Costs, MadeAt, MakesAt, KeepsNamed, KeepsOthers};
 ghost use Rattle.lfn_index.specs.Fault.{HasCause};
 
 use crate::IndexFault;
@@ -197,6 +197,7 @@ pub fn make<T: FileTree>(
     ensures costs { Costs 2 (T.disk tree.old) (T.disk tree.new) }
     ensures leaves { T.tells → MakesAt set.now (aside_at pos) dir.now (oid_text oid.now) (T.disk tree.old) (T.disk tree.new) }
     ensures made { T.tells → IfOk result (MadeAt set.now (aside_at pos) (T.disk tree.old).tree (T.disk tree.new).tree dir.now (oid_text oid.now)) }
+    ensures others { T.tells → KeepsOthers set.now dir.now oid.now (T.disk tree.old).tree (T.disk tree.new).tree }
     ensures lfn { T.tells → KeepsNamed set.now (T.disk tree.old) (T.disk tree.new) }
     ensures undamaged { (p : Path) → result ≢ Err (IndexFault.Damaged p) }
 {
