@@ -2,6 +2,7 @@ pub mod Building
 pub mod Endings
 pub mod Entries
 pub mod Gaps
+pub mod Homing
 pub mod Known
 pub mod LongNames
 pub mod Made
@@ -12,8 +13,10 @@ pub mod Places
 pub mod Placing
 pub mod Reading
 pub mod Removing
+pub mod Renewing
 pub mod Same
 pub mod Seen
+pub mod Shown
 pub mod Steps
 pub mod Texts
 pub mod Walk

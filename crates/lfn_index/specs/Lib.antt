@@ -4,4 +4,5 @@ pub mod Entries
 pub mod Fault
 pub mod FileName
 pub mod Listing
+pub mod Moving
 pub mod Subdirs

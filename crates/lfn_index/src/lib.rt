@@ -11,12 +11,14 @@ mod file_name;
 mod listing;
 mod lookup;
 mod making;
+mod moving;
 mod removal;
 
 pub use fault::IndexFault;
 pub use listing::{Found, names};
 pub use lookup::find;
 pub use making::make;
+pub use moving::move_to;
 pub use removal::unlink;
 
 #[cfg(test)]
