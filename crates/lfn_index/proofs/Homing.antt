@@ -1,5 +1,5 @@
 -- A renewed file comes to its name.
-use Rattle.std.proofs.Common.{◌≡◌, ◌≢◌, ◌⊎◌, inl, inr, ⊎_elim, ℕ, ◌<◌, ◌≤◌, ◌^◌, true, false, List, [], ◌∷◌, ◌++◌, length, refl, sym, ◌∙◌, ap, subst, Option, Some, None, Result, OnOk, All}
+use Rattle.std.proofs.Common.{◌≡◌, ◌≢◌, ◌⊎◌, inl, inr, ⊎_elim, ℕ, ◌<◌, ◌≤◌, ◌^◌, true, false, List, [], ◌∷◌, ◌++◌, length, refl, sym, ◌∙◌, ap, subst, Option, Some, None, Result, Ok, Err, IfOk, OnOk, All}
 use Rattle.std.proofs.lemmas.Bool.{cond-true, cond-false}
 use Rattle.std.specs.Prelude.{nat_le}
 use Rattle.std.proofs.Common.{arith}
@@ -34,8 +34,7 @@ found_spot t now dir front text xs p same is = (is.0, is.1, inl (subst (λ (x : 
 pub free_spot : (t now later : Tree) (dir : Path) (front text : List ℕ) (es xs : List Entry) (p : Path) → now ≡ t → later ≡ t → xs ≡ es → IsListing t dir es → FindsLong now dir front text xs None
     → (number : ℕ) × (number < 2 ^ 64) × (p ≡ entry dir (long_name front number)) × IsLeast later dir front number → FindsSpot t dir front text p
 free_spot t now later dir front text es xs p same same2 list listing none free =
-    let all = subst (λ (x : Tree). FindsLong x dir front text es None) same (subst (λ (l : List Entry). FindsLong now dir front text l None) list none) in
-    (
+    let all = subst (λ (x : Tree). FindsLong x dir front text es None) same (subst (λ (l : List Entry). FindsLong now dir front text l None) list none) in (
       long_name front free.0,
       free.2,
       inr (none_long t dir front text es listing all, (free.0, free.1, refl, subst (λ (x : Tree). IsLeast x dir front free.0) same2 free.3)),
@@ -72,12 +71,15 @@ module _ (set : Settings) (from place dir : Path) (text : List ℕ) (d0 : Disk) 
     change = subst (λ (p : Path). NameChange (MovedFile from p) d0 d1 r) path given
 
     pub short_moves : MovesAt set from place dir text d0 d1
-    short_moves = inr (inl (short, record {
-      at = change.at;
-      moved = change.is;
-      leaves = leaves_more (Named change.at) (named_same change.at) (named_joins change.at) d0 d0 d1 s0 (leaves_same (Named change.at) (named_same change.at) (named_joins change.at) d0 s0)
-          (record { steps = change.step; now = change.partly });
-    }))
+    short_moves = inr (inl (
+      short,
+      record {
+        at = change.at;
+        moved = change.is;
+        leaves = leaves_more (Named change.at) (named_same change.at) (named_joins change.at) d0 d0 d1 s0 (leaves_same (Named change.at) (named_same change.at) (named_joins change.at) d0 s0)
+            (record { steps = change.step; now = change.partly });
+      },
+    ))
 
     pub short_moved : OnOk r (MovedIn set from place d0.tree d1.tree dir text to)
     short_moved = on_ok2 r change.ok change.ok (λ is again.
@@ -109,8 +111,7 @@ module _ (from place : Path) (text : List ℕ) (d0 d1 : Disk) (done : Renewed fr
   pub renewed_dir : (dir : Path) → IsFile d0.tree from → IsDir d0.tree dir → IsFree d0.tree place → IsDir d1.tree dir
   renewed_dir dir file is_dir free =
       let not_from : dir ≢ from = λ same. file_no_dir d0.tree from file (subst (IsDir d0.tree) same is_dir) in
-      let not_place : dir ≢ place = λ same. free_no_dir d0.tree place free (subst (IsDir d0.tree) same is_dir) in
-      (
+      let not_place : dir ≢ place = λ same. free_no_dir d0.tree place free (subst (IsDir d0.tree) same is_dir) in (
         is_dir.0,
         ap (λ (f : Names). f dir) done.names ∙ done.moved.others dir not_from not_place ∙ is_dir.1,
         ap (λ (w : Version). w.dir) (done.leaves.now.others is_dir.0 other) ∙ is_dir.2,
@@ -124,8 +125,7 @@ module _ (from place : Path) (text : List ℕ) (d0 d1 : Disk) (done : Renewed fr
 
   pub renewed_stays : (d2 : Disk) → Sound d1 → Stays d1 d2 → Renews from place text d0 d2
   renewed_stays d2 s1 stays =
-      let v = renewed text (d0.tree.node done.n) in
-      (
+      let v = renewed text (d0.tree.node done.n) in (
         done.n,
         done.from_is,
         done.by_way,
@@ -195,10 +195,10 @@ module _ (set : Settings) (from place dir : Path) (text : List ℕ) (d0 d1 d2 : 
   pub home_target : (d2.tree.at to ≡ None) ⊎ (IsFile d2.tree place × IsFile d2.tree to)
   home_target =
       ⊎_elim
-          (λ there.
-          let here : d2.tree.at to ≡ Some there.n = ap d2.tree.at path ∙ ap (λ (x : Tree). x.at (entry dir step)) stays.tree ∙ there.here in
-          inr (place_moves, (there.n, here, ap (λ (x : Tree). (x.node there.n).dir) stays.tree ∙ there.kind)))
-          (λ none. inl (ap d2.tree.at (path ∙ ap (entry dir) none.1.2) ∙ ap (λ (x : Tree). x.at (entry dir (long_name (stem set text) none.1.0))) stays.tree ∙ none.1.3.free)) found.2
+      (λ there.
+      let here : d2.tree.at to ≡ Some there.n = ap d2.tree.at path ∙ ap (λ (x : Tree). x.at (entry dir step)) stays.tree ∙ there.here in
+      inr (place_moves, (there.n, here, ap (λ (x : Tree). (x.node there.n).dir) stays.tree ∙ there.kind)))
+      (λ none. inl (ap d2.tree.at (path ∙ ap (entry dir) none.1.2) ∙ ap (λ (x : Tree). x.at (entry dir (long_name (stem set text) none.1.0))) stays.tree ∙ none.1.3.free)) found.2
 
   named : HasStem (stem set text) step
   named = ⊎_elim (λ there. there.named) (λ none. (none.1.0, none.1.1, none.1.2)) found.2
@@ -207,11 +207,11 @@ module _ (set : Settings) (from place dir : Path) (text : List ℕ) (d0 d1 d2 : 
   lfn_of w is = ap (λ (x : Version). x.attr lfn_name) is
 
   module _ {T : Type 0} (d3 : Disk) (r : Result T TreeError) (given : NameChange (MovedFile place to) d2 d3 r) where
-    change : NameChange (MovedFile place (entry dir step)) d2 d3 r
-    change = subst (λ (p : Path). NameChange (MovedFile place p) d2 d3 r) path given
+    onward : NameChange (MovedFile place (entry dir step)) d2 d3 r
+    onward = subst (λ (p : Path). NameChange (MovedFile place p) d2 d3 r) path given
 
     abbrev R : Tree → Tree → Type 0
-    R = Moved done.by_way change.at n v text
+    R = Moved done.by_way onward.at n v text
 
     wider_moved : (a b : Tree) → Moved done.by_way done.by_way n v text a b → R a b
     wider_moved a b is = record {
@@ -220,13 +220,13 @@ module _ (set : Settings) (from place dir : Path) (text : List ℕ) (d0 d1 d2 : 
       state = ⊎_elim (λ same. inl same) (λ more. inr (inl (⊎_elim (λ way. way) (λ end. (end.0, end.1)) more))) is.state;
     }
 
-    home : MovedFile place (entry dir step) done.by_way change.at
-    home = subst (λ (f : Names). MovedFile place (entry dir step) f change.at) names2 change.is
+    home : MovedFile place (entry dir step) done.by_way onward.at
+    home = subst (λ (f : Names). MovedFile place (entry dir step) f onward.at) names2 onward.is
 
     pub home_moves : LongMove set from place dir text d0 d3
     home_moves =
-        let same = moved_same done.by_way change.at n v text in
-        let joins = moved_joins done.by_way change.at n v text in
+        let same = moved_same done.by_way onward.at n v text in
+        let joins = moved_joins done.by_way onward.at n v text in
         let so_far : Leaves R d0 d2 =
         leaves_stays R same joins d0 d1 d2 s1 (leaves_wider (Moved done.by_way done.by_way n v text) R wider_moved d0 d1 done.leaves) stays in
         record {
@@ -236,14 +236,14 @@ module _ (set : Settings) (from place dir : Path) (text : List ℕ) (d0 d1 d2 : 
           aside = done.moved;
           step = step;
           named = named;
-          there = change.at;
+          there = onward.at;
           home = home;
           leaves = leaves_more R same joins d0 d2 d3 s2 so_far
-              (there_step done.by_way change.at n v text d2 d3 (λ c may. lfn_of (c.node n) (done.image_node c (stays.image c may))) (lfn_of (d2.tree.node n) node2) change.step change.partly);
+              (there_step done.by_way onward.at n v text d2 d3 (λ c may. lfn_of (c.node n) (done.image_node c (stays.image c may))) (lfn_of (d2.tree.node n) node2) onward.step onward.partly);
         }
 
-    module _ (is : d3.tree ≡ record (d2.tree) { at = change.at }) where
-      at3 : d3.tree.at ≡ change.at
+    module _ (is : d3.tree ≡ record (d2.tree) { at = onward.at }) where
+      at3 : d3.tree.at ≡ onward.at
       at3 = ap (λ (x : Tree). x.at) is
 
       node3 : d3.tree.node n ≡ v
@@ -291,8 +291,7 @@ module _ (set : Settings) (from place dir : Path) (text : List ℕ) (d0 d1 d2 : 
       stood there =
           let not = not_gone step there.n there.here in
           let here : d0.tree.at (entry dir step) ≡ Some there.n = sym (way_at step not) ∙ there.here in
-          let node : d1.tree.node there.n ≡ d0.tree.node there.n = done.leaves.now.others there.n (other_node step there.n not here) in
-          (
+          let node : d1.tree.node there.n ≡ d0.tree.node there.n = done.leaves.now.others there.n (other_node step there.n not here) in (
             there.n,
             record {
               here = here;
@@ -309,14 +308,14 @@ module _ (set : Settings) (from place dir : Path) (text : List ℕ) (d0 d1 d2 : 
                 let node : d1.tree.node m ≡ d0.tree.node m = done.leaves.now.others m (other_node s m not own.here) in
                 absurd
                 (⊎_elim
-                    (λ small. absurd (omega (arith, small.0, long)))
-                    (λ large. none s (record {
-                      n = m;
-                      here = way_at s not ∙ own.here;
-                      kind = ap (λ (w : Version). w.dir) node ∙ own.kind;
-                      named = large.1;
-                      text_is = ap (λ (w : Version). w.attr lfn_name) node ∙ large.2;
-                    })) own.called)
+                (λ small. absurd (omega (arith, small.0, long)))
+                (λ large. none s (record {
+                  n = m;
+                  here = way_at s not ∙ own.here;
+                  kind = ap (λ (w : Version). w.dir) node ∙ own.kind;
+                  named = large.1;
+                  text_is = ap (λ (w : Version). w.attr lfn_name) node ∙ large.2;
+                })) own.called)
           ]
 
       taken : (number : ℕ) → IsLeast d1.tree dir (stem set text) number → (k : ℕ) → k < number → d3.tree.at (entry dir (long_name (stem set text) k)) ≢ None
@@ -332,11 +331,22 @@ module _ (set : Settings) (from place dir : Path) (text : List ℕ) (d0 d1 d2 : 
       is_home : IsHome set from d0.tree d3.tree dir text to
       is_home =
           ⊎_elim
-              (λ there. let own = stood there in inl (step, own.0, path, own.1))
-              (λ none. inr (none_stood none.0, (none.1.0, path ∙ ap (entry dir) none.1.2, taken none.1.0 none.1.3))) found.2
+          (λ there. let own = stood there in inl (step, own.0, path, own.1))
+          (λ none. inr (none_stood none.0, (none.1.0, path ∙ ap (entry dir) none.1.2, taken none.1.0 none.1.3))) found.2
 
     pub home_moved : OnOk r (MovedIn set from place d0.tree d3.tree dir text to)
-    home_moved = on_ok2 r change.ok change.ok (λ is again. moved_home is)
+    home_moved = on_ok2 r onward.ok onward.ok (λ is again. moved_home is)
 
     pub home_is : OnOk r (IsHome set from d0.tree d3.tree dir text to)
-    home_is = on_ok2 r change.ok change.ok (λ is again. is_home is)
+    home_is = on_ok2 r onward.ok onward.ok (λ is again. is_home is)
+
+-- along a call that answers a path
+pub spot_free : (t now later : Tree) (dir : Path) (front text : List ℕ) (es xs : List Entry) (o : Option Path) (r : Result Path TreeError) → now ≡ t → later ≡ t → xs ≡ es → IsListing t dir es → o ≡ None
+    → FindsLong now dir front text xs o → IfOk r (λ p. (number : ℕ) × (number < 2 ^ 64) × (p ≡ entry dir (long_name front number)) × IsLeast later dir front number) → IfOk r (FindsSpot t dir front text)
+spot_free t now later dir front text es xs o (Ok p) same same2 list listing none found free =
+    free_spot t now later dir front text es xs p same same2 list listing (subst (FindsLong now dir front text xs) none found) free
+spot_free t now later dir front text es xs o (Err e) same same2 list listing none found free = tt
+
+pub home_along : (set : Settings) (from dir p : Path) (t now : Tree) (text own : List ℕ) → text ≡ own → (200 < length text → IsHome set from t now dir text p) → 200 < length own → IsHome set from t now dir own p
+home_along set from dir p t now text own same home long =
+    subst (λ (x : List ℕ). IsHome set from t now dir x p) same (home (subst (λ (x : List ℕ). 200 < length x) (sym same) long))

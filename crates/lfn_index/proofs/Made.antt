@@ -61,7 +61,7 @@ last_of : (step : List ℕ) (rest : Path) → (front : Path) × (last : List ℕ
 last_of step [] = ([], step, refl)
 last_of step (x ∷ rest) = let more = last_of x rest in (step ∷ more.0, more.1, ap (λ (l : Path). step ∷ l) more.2)
 
-file_no_dir : (t : Tree) (p : Path) → IsFile t p → IsDir t p → ⊥
+pub file_no_dir : (t : Tree) (p : Path) → IsFile t p → IsDir t p → ⊥
 file_no_dir t p file dir =
     let same : file.0 ≡ dir.0 = let a = file.1 in let b = dir.1 in cc in
     let f = file.2 in

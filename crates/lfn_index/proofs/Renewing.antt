@@ -49,17 +49,17 @@ module _ (by_way there : Names) (n : ℕ) (v : Version) (text : List ℕ) where
     others = λ m not. two.others m not ∙ one.others m not;
     state =
         ⊎_elim
-            (λ same.
-            ⊎_elim
-                (λ first. inl (same.0 ∙ first.0, same.1 ∙ first.1))
-                (λ more.
-                ⊎_elim
-                    (λ way. inr (inl (same.0 ∙ way.0, subst (Mix (a.node n) v) (sym same.1) way.1)))
-                    (λ done. inr (inr (same.0 ∙ done.0, subst (Mix (a.node n) v) (sym same.1) done.1, ap (λ (w : Version). w.attr lfn_name) same.1 ∙ done.2))) more) one.state)
-            (λ more.
-            ⊎_elim
-                (λ way. inr (inl (way.0, mix_joins (a.node n) (b.node n) (c.node n) v (mixed a b one) way.1)))
-                (λ done. inr (inr (done.0, mix_joins (a.node n) (b.node n) (c.node n) v (mixed a b one) done.1, done.2))) more) two.state;
+        (λ same.
+        ⊎_elim
+        (λ first. inl (same.0 ∙ first.0, same.1 ∙ first.1))
+        (λ more.
+        ⊎_elim
+        (λ way. inr (inl (same.0 ∙ way.0, subst (Mix (a.node n) v) (sym same.1) way.1)))
+        (λ done. inr (inr (same.0 ∙ done.0, subst (Mix (a.node n) v) (sym same.1) done.1, ap (λ (w : Version). w.attr lfn_name) same.1 ∙ done.2))) more) one.state)
+        (λ more.
+        ⊎_elim
+        (λ way. inr (inl (way.0, mix_joins (a.node n) (b.node n) (c.node n) v (mixed a b one) way.1)))
+        (λ done. inr (inr (done.0, mix_joins (a.node n) (b.node n) (c.node n) v (mixed a b one) done.1, done.2))) more) two.state;
   }
 
   -- the names become the first ones
@@ -69,8 +69,8 @@ module _ (by_way there : Names) (n : ℕ) (v : Version) (text : List ℕ) where
     others = λ m not. ap (λ (f : ℕ → Version). f m) is.nodes;
     state =
         ⊎_elim
-            (λ same. inl (same, ap (λ (f : ℕ → Version). f n) is.nodes))
-            (λ new. inr (inl (new, subst (Mix (d.node n) v) (sym (ap (λ (f : ℕ → Version). f n) is.nodes)) (same_mix (d.node n) v)))) is.names;
+        (λ same. inl (same, ap (λ (f : ℕ → Version). f n) is.nodes))
+        (λ new. inr (inl (new, subst (Mix (d.node n) v) (sym (ap (λ (f : ℕ → Version). f n) is.nodes)) (same_mix (d.node n) v)))) is.names;
   }
 
   pub way_step : (old new : Disk) → Steps (Named by_way) old new → Named by_way old.tree new.tree → Step R old new
@@ -98,8 +98,8 @@ module _ (by_way there : Names) (n : ℕ) (v : Version) (text : List ℕ) where
         others = λ m not. ap (λ (f : ℕ → Version). f m) is.nodes;
         state =
             ⊎_elim
-                (λ same. inl (same, node))
-                (λ new. inr (inr (new, subst (Mix (d.node n) v) (sym node) (same_mix (d.node n) v), ap (λ (w : Version). w.attr lfn_name) node ∙ has))) is.names;
+            (λ same. inl (same, node))
+            (λ new. inr (inr (new, subst (Mix (d.node n) v) (sym node) (same_mix (d.node n) v), ap (λ (w : Version). w.attr lfn_name) node ∙ has))) is.names;
       }
 
   pub there_step : (old new : Disk) → ((c : Tree) → old.may c → (c.node n).attr lfn_name ≡ Some text) → (old.tree.node n).attr lfn_name ≡ Some text → Steps (Named there) old new → Named there old.tree new.tree

@@ -64,15 +64,15 @@ module _ (set : Settings) (d : Path) (other : d ≢ aside) (name : List ℕ) (ol
     renews_named : (text : List ℕ) (v : Version) (a c : Tree) → old.may a → Moved by_way by_way n v text a c → LongNamed set d c
     renews_named text v a c may is =
         ⊎_elim
-            (λ same. same_named a c may same.0 (all_same a c is.others same.1))
-            (λ more. ⊎_elim (λ way. way_named a c may is.others way.0) (λ done. way_named a c may is.others done.0) more) is.state
+        (λ same. same_named a c may same.0 (all_same a c is.others same.1))
+        (λ more. ⊎_elim (λ way. way_named a c may is.others way.0) (λ done. way_named a c may is.others done.0) more) is.state
 
     home_named : (text : List ℕ) (v : Version) (dir : Path) (last : List ℕ) (there : Names) → 200 < length text → HasStem (stem set text) last → MovedFile place (entry dir last) by_way there → (a c : Tree) → old.may a
         → Moved by_way there n v text a c → LongNamed set d c
     home_named text v dir last there long_text named home a c may is =
         ⊎_elim
-            (λ same. same_named a c may same.0 (all_same a c is.others same.1))
-            (λ more. ⊎_elim (λ way. way_named a c may is.others way.0) (λ done. at_home done.0 done.2) more) is.state
+        (λ same. same_named a c may same.0 (all_same a c is.others same.1))
+        (λ more. ⊎_elim (λ way. way_named a c may is.others way.0) (λ done. at_home done.0 done.2) more) is.state
       where
         at_home : c.at ≡ there → (c.node n).attr lfn_name ≡ Some text → LongNamed set d c
         at_home names has step front m long here file =
@@ -109,18 +109,18 @@ module _ (set : Settings) (d : Path) (other : d ≢ aside) (name : List ℕ) (ol
   pub moves_keep : (from dir : Path) (text : List ℕ) (new : Disk) → ((f : List ℕ) → text ≢ f ++ codes "_long") → MovesAt set from place dir text old new → Keeps (LongNamed set d) old new
   moves_keep from dir text new never moves =
       ⊎_elim
-          (λ same. kept new Same (λ a c may is. subst (LongNamed set d) (sym is) (everywhere a may)) same)
-          (λ more.
-          ⊎_elim
-              (λ short. kept new (Named short.1.at) (short_named text never from dir short.1.at short.1.moved) short.1.leaves)
-              (λ long.
-              ⊎_elim
-                  (λ way.
-                  let v = renewed text (old.tree.node way.0) in
-                  kept new (Moved way.2 way.2 way.0 v text) (renews_named from way.0 way.1 way.2 way.3 text v) way.4)
-                  (λ home.
-                  let v = renewed text (old.tree.node home.n) in
-                  kept new (Moved home.by_way home.there home.n v text) (home_named from home.n home.from_is home.by_way home.aside text v dir home.step home.there long.0 home.named home.home) home.leaves) long.1) more) moves
+      (λ same. kept new Same (λ a c may is. subst (LongNamed set d) (sym is) (everywhere a may)) same)
+      (λ more.
+      ⊎_elim
+      (λ short. kept new (Named short.1.at) (short_named text never from dir short.1.at short.1.moved) short.1.leaves)
+      (λ long.
+      ⊎_elim
+      (λ way.
+      let v = renewed text (old.tree.node way.0) in
+      kept new (Moved way.2 way.2 way.0 v text) (renews_named from way.0 way.1 way.2 way.3 text v) way.4)
+      (λ home.
+      let v = renewed text (old.tree.node home.n) in
+      kept new (Moved home.by_way home.there home.n v text) (home_named from home.n home.from_is home.by_way home.aside text v dir home.step home.there long.0 home.named home.home) home.leaves) long.1) more) moves
 
 pub named_moves : (set : Settings) (pos : Pos) (from dir p : Path) (o : Oid) (text : List ℕ) (old new : Disk) → Sound old → p ≡ aside_at pos → text ≡ oid_text o → MovesAt set from p dir text old new → KeepsNamed set old new
 named_moves set pos from dir p o text old new sound place is moves d other everywhere =

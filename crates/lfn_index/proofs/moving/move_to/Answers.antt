@@ -1,6 +1,7 @@
 use Rattle.std.proofs.Common.{◌∙◌, sym, subst, inl}
 use Rattle.fs_names.specs.Text.{oid_text}
 use Rattle.tree_api.specs.Step.{IsStep}
+use Rattle.lfn_index.proofs.Homing.{home_along}
 use Rattle.lfn_index.proofs.Made.{never_entry}
 use Rattle.lfn_index.proofs.Shown.{named_moves, moves_along}
 use Rattle.lfn_index.proofs.Texts.{oid_step}
@@ -35,3 +36,9 @@ returns-clause-lfn g c = λ t.
     let disk = g.T.FileTree.disk in
     named_moves c.args.set.now c.args.pos c.args.from.now c.args.dir.now c.in_ok-aside.aside c.args.oid.now c.slice.result.now (disk c.args.tree.now) (disk c.move_file.new.tree)
     (g.met.T.FileTree.sound t c.args.tree.now) c.in_ok-aside.ensures (c.slice.ensures ∙ c.in_ok-text.ensures) (c.move_file.ensures.leaves t)
+
+pub returns-clause-home : goal.returns-clause-home
+returns-clause-home g c = λ t.
+    let disk = g.T.FileTree.disk in
+    home_along c.args.set.now c.args.from.now c.args.dir.now c.in_ok-move_file.field-0 (disk c.args.tree.now).tree (disk c.move_file.new.tree).tree c.slice.result.now (oid_text c.args.oid.now)
+    (c.slice.ensures ∙ c.in_ok-text.ensures) (c.in_ok-move_file.ensures.home t)
