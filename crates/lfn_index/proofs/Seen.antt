@@ -2,7 +2,7 @@
 use Rattle.std.proofs.Common.{◌≡◌, ◌≢◌, ◌⊎◌, inl, inr, ⊎_elim, ℕ, zero, suc, ◌+◌, ◌<◌, ◌≤◌, true, List, [], ◌∷◌, ◌++◌, length, get_or, All, Contains, refl, sym, ◌∙◌, ap, subst, Option, Some, None, arith}
 use Rattle.std.proofs.lemmas.Bool.{cases_eq, cases_lt}
 use Rattle.std.proofs.lemmas.List.{same_from_push, length_push, get_or_default, get_or_append_left, get_or_push}
-use Rattle.std.proofs.lemmas.List.Elements.{All-nil, All-push, All-weaker, Contains-append_left, Contains-push, Contains-get_or}
+use Rattle.std.proofs.lemmas.List.Elements.{All-nil, All-push, All-weaker, Contains-append_left, Contains-push}
 use Rattle.fs_names.specs.declared.oid.Oid.{Oid}
 use Rattle.fs_names.specs.declared.settings.Settings.{Settings}
 use Rattle.tree_api.specs.Answer.{Before, RisingSteps, HaveSteps, IsListing, kind_of}
@@ -10,7 +10,7 @@ use Rattle.tree_api.specs.Tree.{Path, Tree}
 use Rattle.tree_api.specs.declared.tree.Entry.{Entry}
 use Rattle.lfn_index.specs.declared.listing.Found.{Found}
 use Rattle.lfn_index.specs.Directory.{entry}
-use Rattle.lfn_index.specs.Listing.{IsSubdir, IsFileAt, IsUnknown, IsTwice, IsDamage, IsFound, AreNames}
+use Rattle.lfn_index.specs.Listing.{IsSubdir, IsFileAt, IsTwice, IsDamage, IsFound, AreNames}
 use Rattle.lfn_index.proofs.Once.{file_once, dir_no_file}
 
 pub before_joins : (x y z : List ℕ) → Before x y → Before y z → Before x z

@@ -1,12 +1,11 @@
 -- One entry more of a walk over a listing.
-use Rattle.std.proofs.Common.{◌≡◌, ◌≢◌, inl, inr, ℕ, ◌+◌, ◌<◌, List, [], ◌∷◌, ◌++◌, length, get_or, All, Contains, sym, ◌∙◌, ap, subst, Option, Some, None}
+use Rattle.std.proofs.Common.{◌≡◌, ◌≢◌, inl, inr, ℕ, ◌+◌, ◌<◌, List, [], ◌∷◌, ◌++◌, length, get_or, All, sym, ◌∙◌, ap, subst, Option, Some, None}
 use Rattle.std.proofs.lemmas.List.{get_or_default}
 use Rattle.fs_names.specs.declared.settings.Settings.{Settings}
 use Rattle.tree_api.specs.Answer.{IsListing}
 use Rattle.tree_api.specs.Tree.{Path, Tree}
 use Rattle.tree_api.specs.declared.tree.Entry.{Entry}
 use Rattle.lfn_index.specs.declared.listing.Found.{Found}
-use Rattle.lfn_index.specs.Directory.{entry}
 use Rattle.lfn_index.specs.Listing.{IsRead, IsNoRead, IsFirstDamage, Appends, Repeats}
 use Rattle.lfn_index.proofs.Seen.{At, Seen, seen_subdir, seen_file, seen_twice, seen_first}
 

@@ -1,12 +1,9 @@
 -- What the entries of a directory are.
-use Rattle.std.specs.Prelude.{◌≡◌, ◌≢◌, ◌⊎◌, ℕ, ◌<◌, ◌≤◌, List, [], ◌∷◌, ◌++◌, length, codes, All, Contains, slice_index_or, Option, Some, None, MatchOption}
+use Rattle.std.specs.Prelude.{◌≡◌, ◌≢◌, ◌⊎◌, ℕ, ◌<◌, List, [], ◌∷◌, ◌++◌, length, All, Contains, slice_index_or, Option, Some, None, MatchOption}
 use Rattle.fs_names.specs.declared.oid.Oid.{Oid}
 use Rattle.fs_names.specs.declared.settings.Settings.{Settings}
-use Rattle.fs_names.specs.Reading.{OidFits}
-use Rattle.fs_names.specs.Text.{oid_text}
 use Rattle.tree_api.specs.Answer.{Before}
 use Rattle.tree_api.specs.Tree.{Path, Tree, IsDir}
-use Rattle.lfn_index.specs.FileName.{HasStem, stem, CalledBy}
 use Rattle.lfn_index.specs.Directory.{entry, IsFileOf}
 use Rattle.lfn_index.specs.Subdirs.{IsSubdirName}
 use Rattle.lfn_index.specs.declared.listing.Found.{Found}

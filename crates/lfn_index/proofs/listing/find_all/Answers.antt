@@ -1,4 +1,4 @@
-use Rattle.std.proofs.Common.{◌≡◌, ◌∙◌, sym, subst, arith}
+use Rattle.std.proofs.Common.{arith}
 use Rattle.lfn_index.proofs.Entries.{item_entry, listed_entries}
 use Rattle.lfn_index.specs.declared.fault.IndexFault.TheVariants.{Damaged}
 use Rattle.lfn_index.proofs.Known.{handed_on}
