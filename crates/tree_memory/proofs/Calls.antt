@@ -11,7 +11,10 @@ use Rattle.tree_memory.proofs.Sounds.{goes, steps}
 same_some : (a b : ℕ) → Some a ≡ Some b → a ≡ b
 same_some a b e = cc
 
-not_memory : {T : Type 0} (x : T) → Ok {E = TreeError} x ≡ Err Memory → ⊥
+abbrev given : {T : Type 0} → T → Result T TreeError
+given x = Ok x
+
+not_memory : {T : Type 0} (x : T) → given x ≡ Err Memory → ⊥
 not_memory x is = cc
 
 all_new : (a b : Version) → b.dir ≡ a.dir → Mix a b b

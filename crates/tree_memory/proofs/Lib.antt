@@ -1,7 +1,12 @@
 pub mod Belows
 pub mod Bytes
+pub mod Calls
+pub mod Copies
+pub mod Images
 pub mod Keeps
 pub mod Lists
+pub mod Mixes
 pub mod Orders
 pub mod Rising
+pub mod Sounds
 pub mod Stripped

@@ -93,7 +93,7 @@ impl NameMap {
         ensures { IfOk result (λ names. IsBelow (names_at self.now) dir.now names.items) }
     {
         let mut names = Vec::new(self.alloc);
-        for (place, node) in &self.map {
+        for (place, node) in self.map.iter() {
             if let Some(rest) = rest_of(self.alloc, dir, &place.path)? {
                 names.push(Name { rest, node: *node })?;
             }

@@ -31,7 +31,7 @@ impl Snaps {
         ensures { IfOk result (λ s. snaps_of s ≡ snaps_of self.now) }
     {
         let mut map = BTreeMap::new(self.alloc);
-        for (seq, snap) in &self.map {
+        for (seq, snap) in self.map.iter() {
             map.insert(*seq, snap.copy(self.alloc)?)?;
         }
         Ok(Snaps {
