@@ -5,8 +5,8 @@ use Rattle.tree_api.specs.Disk.{Disk, Steps, Stays, Still, NameChange, Creation,
 use Rattle.tree_api.specs.declared.tree.TreeError.{TreeError}
 use Rattle.tree_api.specs.declared.tree.TreeError.TheVariants.{Memory}
 use Rattle.tree_memory.specs.History.{History, IsImage, State, next, disk, put, renamed, wrote, made, synced, synced_names, synced_all, snapped, rolled}
-use Rattle.tree_memory.proofs.Images.{put_here, put_other, renamed_image, wrote_image, made_image, synced_image, synced_names_image, synced_all_image, snapped_image, snapped_now}
-use Rattle.tree_memory.proofs.Sounds.{goes, steps}
+use Rattle.tree_memory.specs.Images.{put_here, put_other, renamed_image, wrote_image, made_image, synced_image, synced_names_image, synced_all_image, snapped_image, snapped_now}
+use Rattle.tree_memory.specs.Sounds.{goes, steps}
 
 same_some : (a b : ℕ) → Some a ≡ Some b → a ≡ b
 same_some a b e = cc

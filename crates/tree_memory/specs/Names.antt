@@ -1,5 +1,5 @@
 -- Name maps, and changes of names.
-use Rattle.std.specs.Prelude.{◌≡◌, ℕ, List, [], ◌∷◌, ◌++◌, if◌then◌else◌, map, All, Option, Some, None}
+use Rattle.std.specs.Prelude.{◌≡◌, ℕ, suc, List, [], ◌∷◌, ◌++◌, ◌&&◌, if◌then◌else◌, map, All, Bool, true, nat_lt, Option, Some, None}
 use Rattle.std.specs.BTreeMap.{get}
 use Rattle.std.specs.List.Sorted.{IsStrictlySortedBy}
 use Rattle.tree_api.specs.Tree.{Path, Names}
@@ -40,3 +40,23 @@ pub record IsBelow (at : Names) (d : Path) (l : List Name) : Type 0 where
   pub find : (r : Path) → find_name l r ≡ at (d ++ r)
   pub each : All (λ x. at (d ++ x.rest) ≡ Some x.node) l
   pub rises : IsStrictlySortedBy path_cmp (map (λ x. x.rest) l)
+
+-- changes by which all these below d go, and come
+abbrev pub unlinks : Path → List Name → List Edit
+unlinks d [] = []
+unlinks d (x ∷ xs) = Unlink (d ++ x.rest) ∷ unlinks d xs
+
+abbrev pub links : Path → List Name → List Edit
+links d [] = []
+links d (x ∷ xs) = Link (d ++ x.rest) x.node ∷ links d xs
+
+-- these paths with numbers, the first getting this one
+abbrev pub numbered : ℕ → List Path → List Name
+numbered first [] = []
+numbered first (p ∷ ps) = record { rest = p; node = first } ∷ numbered (suc first) ps
+
+-- all links lead to numbers below k
+abbrev pub links_below : ℕ → List Edit → Bool
+links_below k [] = true
+links_below k (Link p n ∷ es) = nat_lt n k && links_below k es
+links_below k (Unlink p ∷ es) = links_below k es

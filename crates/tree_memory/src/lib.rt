@@ -8,17 +8,18 @@
 mod draws;
 mod event;
 // mod leave;
-// mod memory;
+mod making;
+mod memory;
 mod names;
 mod node;
 mod paths;
 mod place;
 mod snap;
 mod snaps;
-// mod store;
-// mod tree;
+mod store;
+mod tree;
 
-// pub use memory::MemoryTree;
+pub use memory::MemoryTree;
 
 // #[cfg(test)]
 // mod tests;

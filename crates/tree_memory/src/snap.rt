@@ -1,7 +1,7 @@
 // What a snapshot keeps.
 ghost use Rattle.std.specs.Prelude.{◌≡◌, map, IfOk};
 ghost use Rattle.tree_memory.specs.Nodes.{version};
-ghost use Rattle.tree_memory.specs.Kept.{content_of, IsEach};
+ghost use Rattle.tree_memory.specs.Kept.{content_of, rests_of, IsEach};
 
 use crate::node::Node;
 use std::alloc::{AllocError, Global};
@@ -19,7 +19,7 @@ pub struct Kept {
 #[derive(Drop)]
 pub struct Snap {
     pub kept: Vec<Kept>,
-    ghost each: { IsEach kept.items },
+    ghost each: { IsEach (rests_of kept.items) },
 }
 
 impl Kept {

@@ -4,7 +4,7 @@ use Rattle.tree_api.specs.Tree.{Path, Version, Names, Tree, IsDir}
 use Rattle.tree_api.specs.Disk.{Disk, Sound, Elapses, Steps, Stays, Still}
 use Rattle.tree_memory.specs.History.{History, Among, IsMix, IsImage, HadImage, State, next, disk}
 use Rattle.tree_memory.specs.Valid.{dir_at, IsGood, IsValid}
-use Rattle.tree_memory.proofs.Images.{now_image, mixes_image}
+use Rattle.tree_memory.specs.Images.{now_image, mixes_image}
 
 none_left : (past : List History) (c : Tree) → HadImage (drop (length past) past) c → ⊥
 none_left [] c had = had

@@ -4,7 +4,7 @@ use Rattle.std.proofs.lemmas.Bool.{cases_eq}
 use Rattle.std.proofs.lemmas.Bool.Decides.{nat_tests}
 use Rattle.tree_api.specs.Tree.{Version, Names, Content, Tree, Mix, Between, Named, Made, Wrote, Snapped}
 use Rattle.tree_memory.specs.History.{History, Among, IsMix, IsImage, put, renamed, wrote, made, synced, synced_names, synced_all, snapped}
-use Rattle.tree_memory.proofs.Mixes.{before, before_mix, after_mix, one_mix, mix_first}
+use Rattle.tree_memory.specs.Mixes.{before, before_mix, after_mix, one_mix, mix_first}
 
 pub put_here : {A : Type 0} (f : ℕ → A) (n : ℕ) (v : A) → put f n v n ≡ v
 put_here f n v = grind (arith, nat_tests)
@@ -12,7 +12,7 @@ put_here f n v = grind (arith, nat_tests)
 pub put_other : {A : Type 0} (f : ℕ → A) (n : ℕ) (v : A) (m : ℕ) → m ≢ n → put f n v m ≡ f m
 put_other f n v m not = grind (arith, nat_tests)
 
-self_mix : (v : Version) (older : List Version) → IsMix v older v
+pub self_mix : (v : Version) (older : List Version) → IsMix v older v
 self_mix v older = record { dir = refl; len = (v, inl refl, refl); byte = λ i lt. (v, inl refl, refl); attr = λ name. (v, inl refl, refl) }
 
 pub now_image : (h : History) → IsImage h h.tree
