@@ -1,5 +1,5 @@
 -- What the trait says of each call, by what its event did.
-use Rattle.std.proofs.Common.{◌≡◌, ◌≢◌, ◌⊎◌, inl, inr, ⊎_elim, ℕ, zero, suc, ◌+◌, ◌-◌, ◌<◌, ◌≤◌, ◌^◌, ◌==◌, ◌&&◌, List, [], ◌∷◌, ◌++◌, length, take, map, Bool, true, false, cond, Option, Some, None, Result, Ok, Err, OnOk, IfOk, refl, sym, ◌∙◌, ap, subst, append_assoc, arith, lit<, nat_lt, min}
+use Rattle.std.proofs.Common.{◌≡◌, ◌≢◌, ◌⊎◌, inl, inr, ⊎_elim, ℕ, zero, suc, ◌+◌, ◌-◌, ◌<◌, ◌≤◌, ◌^◌, ◌==◌, ◌&&◌, List, [], ◌∷◌, ◌++◌, length, take, map, Bool, true, false, cond, Option, Some, None, Result, Ok, Err, OnOk, OnErr, IfOk, refl, sym, ◌∙◌, ap, subst, append_assoc, arith, lit<, nat_lt, min}
 use Rattle.std.specs.declared.alloc.AllocError.{AllocError}
 use Rattle.std.proofs.lemmas.Bool.{cases_eq, cases_lt, eq-eqb, lt-ltb, and_from}
 use Rattle.std.proofs.lemmas.Grind.{common_steps}
@@ -10,10 +10,12 @@ use Rattle.tree_api.specs.declared.tree.TreeError.TheVariants.{Memory, Refused}
 use Rattle.tree_api.proofs.Images.{none_created, none_named, none_changed, none_synced, none_synced_names, none_snapped, none_rolled}
 use Rattle.tree_memory.specs.History.{History, Among, IsImage, State, next, disk, renamed, wrote, made, synced, synced_names, synced_all, snapped}
 use Rattle.tree_memory.specs.Paths.{same_step}
-use Rattle.tree_memory.specs.Names.{put_at, gone_at, edited, unlinks, links, links_below, IsBelow}
+use Rattle.tree_memory.specs.Names.{names_at, put_at, gone_at, edited, unlinks, links, links_below, IsBelow}
 use Rattle.tree_memory.specs.Nodes.{fresh, written_in, cut_to, with_attr, changed, fits}
 use Rattle.tree_memory.specs.Log.{run, adds, suits, flush}
 use Rattle.tree_memory.specs.Valid.{dir_at, IsGood, IsWhole, IsValid}
+use Rattle.tree_memory.specs.Told.{tree_of}
+use Rattle.tree_memory.specs.declared.store.Store.{Store}
 use Rattle.tree_memory.specs.Tells.{Follows, Did}
 use Rattle.tree_memory.specs.Events.{IsChange}
 use Rattle.tree_memory.specs.declared.event.Event.{Event}
@@ -29,16 +31,16 @@ use Rattle.tree_memory.proofs.Valids.{dirs, valid_renamed, valid_wrote, valid_ma
 abbrev pub Answer : Type 0
 Answer = Result (Unit {0}) TreeError
 
-module _ (s : State) (h : History) (y l f2 : ℕ) (R : Disk → Answer → Type 0) (done : R (disk (next h s) f2 y l) (Ok tt)) (none : (e : TreeError) → R (disk s f2 y l) (Err e)) where
-  by_follows : (new : State) (r : Answer) → Follows h s new r → R (disk new f2 y l) r
-  by_follows new (Ok x) k = subst (λ (t : State). R (disk t f2 y l) (Ok tt)) (sym k.ok) done
-  by_follows new (Err e) k = subst (λ (t : State). R (disk t f2 y l) (Err e)) (sym k.err) (none e)
+module _ (s : State) (h : History) (y2 l2 f2 : ℕ) (R : Disk → Answer → Type 0) (done : R (disk (next h s) f2 y2 l2) (Ok tt)) (none : (e : TreeError) → R (disk s f2 y2 l2) (Err e)) where
+  by_follows : (new : State) (r : Answer) → Follows h s new r → R (disk new f2 y2 l2) r
+  by_follows new (Ok x) k = subst (λ (t : State). R (disk t f2 y2 l2) (Ok tt)) (sym k.ok) done
+  by_follows new (Err e) k = subst (λ (t : State). R (disk t f2 y2 l2) (Err e)) (sym k.err) (none e)
 
-  by_none : (new : State) (r : Answer) → (OnOk r ⊥ × OnErr r (new ≡ s)) → R (disk new f2 y l) r
+  by_none : (new : State) (r : Answer) → (OnOk r ⊥ × OnErr r (new ≡ s)) → R (disk new f2 y2 l2) r
   by_none new (Ok x) k = absurd k.0
-  by_none new (Err e) k = subst (λ (t : State). R (disk t f2 y l) (Err e)) (sym k.1) (none e)
+  by_none new (Err e) k = subst (λ (t : State). R (disk t f2 y2 l2) (Err e)) (sym k.1) (none e)
 
-  pub by_did : (ev : Result Event AllocError) → IfOk ev (λ e. run e s.now ≡ h) → (new : State) (r : Answer) → Did ev s new r → R (disk new f2 y l) r
+  pub by_did : (ev : Result Event AllocError) → IfOk ev (λ e. run e s.now ≡ h) → (new : State) (r : Answer) → Did ev s new r → R (disk new f2 y2 l2) r
   by_did (Ok e) is new r did = by_follows new r (subst (λ (g : History). Follows g s new r) is did)
   by_did (Err x) is new r did = by_none new r did
 
@@ -56,24 +58,24 @@ one_node o a b e f = let z : Some a ≡ Some b = sym e ∙ f in cc
 pub dir_of : (t : Tree) (d : Path) → IsDir t d → dir_at (dirs t) (t.at d) ≡ true
 dir_of t d is = ap (dir_at (dirs t)) is.1 ∙ is.2
 
-module _ (s : State) (k : ℕ) (valid : IsValid k s.now) (f y l f2 : ℕ) where
+module _ (s : State) (k : ℕ) (valid : IsValid k s.now) (f y l f2 y2 l2 : ℕ) where
   now_good : IsGood k (dirs s.now.tree) s.now.tree.at
   now_good = valid.maps s.now.tree.at (inl refl)
 
-  still : Still (disk s f y l) (disk s f2 y l)
-  still = same_state s f y l f2 y l
+  still : Still (disk s f y l) (disk s f2 y2 l2)
+  still = same_state s f y l f2 y2 l2
 
   -- ---- a new node
 
   unused : (c : Tree) → IsImage s.now c → (q : Path) → c.at q ≢ Some k
   unused c may q here = let lt = (valid.maps c.at may.names).low q k here in absurd (omega arith)
 
-  pub make_call : (p : Path) (dir : Bool) (ev : Result Event AllocError) (new : State) (r : Answer) → IfOk ev (λ e. e ≡ Make p k dir) → Did ev s new r → Creation p (fresh dir) (disk s f y l) (disk new f2 y l) r
+  pub make_call : (p : Path) (dir : Bool) (ev : Result Event AllocError) (new : State) (r : Answer) → IfOk ev (λ e. e ≡ Make p k dir) → Did ev s new r → Creation p (fresh dir) (disk s f y l) (disk new f2 y2 l2) r
   make_call p dir ev new r is did =
       let at = put_at p k s.now.tree.at in
-      by_did s (made k (fresh dir) at s.now) y l f2 (λ d x. Creation p (fresh dir) (disk s f y l) d x)
-      (creates s f y l f2 y l tt p (fresh dir) k at (put_here p k s.now.tree.at) (put_other p k s.now.tree.at) unused)
-      (λ e. none_created (disk s f y l) (disk s f2 y l) e still p (fresh dir) k at (put_here p k s.now.tree.at) (put_other p k s.now.tree.at) unused)
+      by_did s (made k (fresh dir) at s.now) y2 l2 f2 (λ d x. Creation p (fresh dir) (disk s f y l) d x)
+      (creates s f y l f2 y2 l2 tt p (fresh dir) k at (put_here p k s.now.tree.at) (put_other p k s.now.tree.at) unused)
+      (λ e. none_created (disk s f y l) (disk s f2 y2 l2) e still p (fresh dir) k at (put_here p k s.now.tree.at) (put_other p k s.now.tree.at) unused)
       ev (if_ok ev (λ e same. ap (λ (x : Event). run x s.now) same) is) new r did
 
   pub make_valid : (p : Path) (dir : Bool) (ev : Result Event AllocError) → s.now.tree.at p ≡ None → HasParent s.now.tree p → IfOk ev (λ e. e ≡ Make p k dir) → IfOk ev (λ e. IsValid (k + adds e) (run e s.now))
@@ -91,11 +93,11 @@ module _ (s : State) (k : ℕ) (valid : IsValid k s.now) (f y l f2 : ℕ) where
   gone_is : (p : Path) → Gone p s.now.tree.at (gone_at p s.now.tree.at)
   gone_is p = record { gone = gone_here p s.now.tree.at; others = gone_other p s.now.tree.at }
 
-  pub gone_call : (p : Path) (ev : Result Event AllocError) (new : State) (r : Answer) → IfOk ev (λ e. e ≡ Remove p) → Did ev s new r → NameChange (Gone p) (disk s f y l) (disk new f2 y l) r
+  pub gone_call : (p : Path) (ev : Result Event AllocError) (new : State) (r : Answer) → IfOk ev (λ e. e ≡ Remove p) → Did ev s new r → NameChange (Gone p) (disk s f y l) (disk new f2 y2 l2) r
   gone_call p ev new r is did =
-      by_did s (renamed (gone_at p s.now.tree.at) s.now) y l f2 (λ d x. NameChange (Gone p) (disk s f y l) d x)
-      (renames s f y l f2 y l tt (Gone p) (gone_at p s.now.tree.at) (gone_is p))
-      (λ e. none_named (disk s f y l) (disk s f2 y l) e still (Gone p) (gone_at p s.now.tree.at) (gone_is p))
+      by_did s (renamed (gone_at p s.now.tree.at) s.now) y2 l2 f2 (λ d x. NameChange (Gone p) (disk s f y l) d x)
+      (renames s f y l f2 y2 l2 tt (Gone p) (gone_at p s.now.tree.at) (gone_is p))
+      (λ e. none_named (disk s f y l) (disk s f2 y2 l2) e still (Gone p) (gone_at p s.now.tree.at) (gone_is p))
       ev (if_ok ev (λ e same. ap (λ (x : Event). run x s.now) same) is) new r did
 
   gone_valid : (p : Path) (ev : Result Event AllocError) → p ≢ [] → ((t : List ℕ) → s.now.tree.at (p ++ t ∷ []) ≡ None) → IfOk ev (λ e. e ≡ Remove p) → IfOk ev (λ e. IsValid (k + adds e) (run e s.now))
@@ -133,12 +135,12 @@ module _ (s : State) (k : ℕ) (valid : IsValid k s.now) (f y l f2 : ℕ) where
         let same : is.node ≡ node.0 = one_node (s.now.tree.at p) is.node node.0 is.here node.1 in
         ap (λ (x : Event). run x s.now) is.is ∙ (λ i. wrote (same i) (is.does (s.now.tree.node (same i)) i) s.now)
 
-    pub change_call : (ev : Result Event AllocError) (new : State) (r : Answer) → IfOk ev (IsChange s.now.tree p fn) → Did ev s new r → Change p R (disk s f y l) (disk new f2 y l) r
+    pub change_call : (ev : Result Event AllocError) (new : State) (r : Answer) → IfOk ev (IsChange s.now.tree p fn) → Did ev s new r → Change p R (disk s f y l) (disk new f2 y2 l2) r
     unfolding node to
     change_call ev new r is did =
-        by_did s (wrote node.0 to s.now) y l f2 (λ d x. Change p R (disk s f y l) d x)
-        (changes s f y l f2 y l tt p R node.0 to node.1 (means (s.now.tree.node node.0)) (dir (s.now.tree.node node.0)))
-        (λ e. none_changed (disk s f y l) (disk s f2 y l) e still p R node.0 to node.1 (means (s.now.tree.node node.0)))
+        by_did s (wrote node.0 to s.now) y2 l2 f2 (λ d x. Change p R (disk s f y l) d x)
+        (changes s f y l f2 y2 l2 tt p R node.0 to node.1 (means (s.now.tree.node node.0)) (dir (s.now.tree.node node.0)))
+        (λ e. none_changed (disk s f y l) (disk s f2 y2 l2) e still p R node.0 to node.1 (means (s.now.tree.node node.0)))
         ev (if_ok ev ran_change is) new r did
 
     pub change_valid : (ev : Result Event AllocError) → ((v : Version) → length v.bytes < 2 ^ 63 → length (fn v).bytes < 2 ^ 63) → IfOk ev (IsChange s.now.tree p fn) → IfOk ev (λ e. IsValid (k + adds e) (run e s.now))
@@ -153,12 +155,12 @@ module _ (s : State) (k : ℕ) (valid : IsValid k s.now) (f y l f2 : ℕ) where
 
   -- ---- syncs
 
-  pub sync_call : (p : Path) (ev : Result Event AllocError) (new : State) (r : Answer) → s.now.tree.at p ≢ None → IfOk ev (λ e. (n : ℕ) × (e ≡ SyncFile n) × (s.now.tree.at p ≡ Some n)) → Did ev s new r → Synced p (disk s f y l) (disk new f2 y l) r
+  pub sync_call : (p : Path) (ev : Result Event AllocError) (new : State) (r : Answer) → s.now.tree.at p ≢ None → IfOk ev (λ e. (n : ℕ) × (e ≡ SyncFile n) × (s.now.tree.at p ≡ Some n)) → Did ev s new r → Synced p (disk s f y l) (disk new f2 y2 l2) r
   sync_call p ev new r there is did =
       let n = found (s.now.tree.at p) there in
-      by_did s (synced n.0 s.now) y l f2 (λ d x. Synced p (disk s f y l) d x)
-      (syncs_node s f y l f2 y l tt p n.0 n.1)
-      (λ e. none_synced (disk s f y l) (disk s f2 y l) e still p)
+      by_did s (synced n.0 s.now) y2 l2 f2 (λ d x. Synced p (disk s f y l) d x)
+      (syncs_node s f y l f2 y2 l2 tt p n.0 n.1)
+      (λ e. none_synced (disk s f y l) (disk s f2 y2 l2) e still p)
       ev (if_ok ev (λ e one. ap (λ (x : Event). run x s.now) one.1 ∙ ap (λ (m : ℕ). synced m s.now) (one_node (s.now.tree.at p) one.0 n.0 one.2 n.1)) is) new r did
 
   pub sync_valid : (p : Path) (ev : Result Event AllocError) → IfOk ev (λ e. (n : ℕ) × (e ≡ SyncFile n) × (s.now.tree.at p ≡ Some n)) → IfOk ev (λ e. IsValid (k + adds e) (run e s.now))
@@ -169,11 +171,11 @@ module _ (s : State) (k : ℕ) (valid : IsValid k s.now) (f y l f2 : ℕ) where
   pub sync_suits : (p : Path) (ev : Result Event AllocError) → IfOk ev (λ e. (n : ℕ) × (e ≡ SyncFile n) × (s.now.tree.at p ≡ Some n)) → IfOk ev (λ e. suits k e ≡ true)
   sync_suits p ev is = if_ok ev (λ e one. ap (suits k) one.1 ∙ lt-ltb one.0 k (now_good.low p one.0 one.2)) is
 
-  pub names_call : (new : State) (r : Answer) → Did {T = Unit {0}} {E = TreeError} (Ok SyncNames) s new r → SyncedNames (disk s f y l) (disk new f2 y l) r
+  pub names_call : (new : State) (r : Answer) → Did {T = Unit {0}} {E = TreeError} (Ok SyncNames) s new r → SyncedNames (disk s f y l) (disk new f2 y2 l2) r
   names_call new r did =
-      by_did s (synced_names s.now) y l f2 (λ d x. SyncedNames (disk s f y l) d x)
-      (syncs_names s f y l f2 y l tt)
-      (λ e. none_synced_names (disk s f y l) (disk s f2 y l) e still)
+      by_did s (synced_names s.now) y2 l2 f2 (λ d x. SyncedNames (disk s f y l) d x)
+      (syncs_names s f y l f2 y2 l2 tt)
+      (λ e. none_synced_names (disk s f y l) (disk s f2 y2 l2) e still)
       (Ok SyncNames) refl new r did
 
   pub names_valid : IsValid (k + 0) (synced_names s.now)
@@ -181,11 +183,11 @@ module _ (s : State) (k : ℕ) (valid : IsValid k s.now) (f y l f2 : ℕ) where
 
   -- ---- snapshots
 
-  pub snap_call : (seq : ℕ) (new : State) (r : Answer) → Did {T = Unit {0}} {E = TreeError} (Ok (Snapshot seq)) s new r → SnapChange seq (Some (content s.now.tree)) (disk s f y l) (disk new f2 y l) r
+  pub snap_call : (seq : ℕ) (new : State) (r : Answer) → Did {T = Unit {0}} {E = TreeError} (Ok (Snapshot seq)) s new r → SnapChange seq (Some (content s.now.tree)) (disk s f y l) (disk new f2 y2 l2) r
   snap_call seq new r did =
-      by_did s (snapped seq (Some (content s.now.tree)) s.now) y l f2 (λ d x. SnapChange seq (Some (content s.now.tree)) (disk s f y l) d x)
-      (snaps s f y l f2 y l tt seq (Some (content s.now.tree)))
-      (λ e. none_snapped (disk s f y l) (disk s f2 y l) e still seq (Some (content s.now.tree)))
+      by_did s (snapped seq (Some (content s.now.tree)) s.now) y2 l2 f2 (λ d x. SnapChange seq (Some (content s.now.tree)) (disk s f y l) d x)
+      (snaps s f y l f2 y2 l2 tt seq (Some (content s.now.tree)))
+      (λ e. none_snapped (disk s f y l) (disk s f2 y2 l2) e still seq (Some (content s.now.tree)))
       (Ok (Snapshot seq)) refl new r did
 
   pub snap_valid : (seq : ℕ) → IsValid (k + 0) (snapped seq (Some (content s.now.tree)) s.now)
@@ -195,11 +197,11 @@ module _ (s : State) (k : ℕ) (valid : IsValid k s.now) (f y l f2 : ℕ) where
       some_same : (a b : Content) → Some a ≡ Some b → a ≡ b
       some_same a b e = cc
 
-  pub drop_call : (seq : ℕ) (new : State) (r : Answer) → Did {T = Unit {0}} {E = TreeError} (Ok (DropSnapshot seq)) s new r → SnapChange seq None (disk s f y l) (disk new f2 y l) r
+  pub drop_call : (seq : ℕ) (new : State) (r : Answer) → Did {T = Unit {0}} {E = TreeError} (Ok (DropSnapshot seq)) s new r → SnapChange seq None (disk s f y l) (disk new f2 y2 l2) r
   drop_call seq new r did =
-      by_did s (snapped seq None s.now) y l f2 (λ d x. SnapChange seq None (disk s f y l) d x)
-      (snaps s f y l f2 y l tt seq None)
-      (λ e. none_snapped (disk s f y l) (disk s f2 y l) e still seq None)
+      by_did s (snapped seq None s.now) y2 l2 f2 (λ d x. SnapChange seq None (disk s f y l) d x)
+      (snaps s f y l f2 y2 l2 tt seq None)
+      (λ e. none_snapped (disk s f y l) (disk s f2 y2 l2) e still seq None)
       (Ok (DropSnapshot seq)) refl new r did
 
   pub drop_valid : (seq : ℕ) → IsValid (k + 0) (snapped seq None s.now)
@@ -217,8 +219,8 @@ attr_is name value v = record {
 }
   where
     by : (b : Bool) → (b ≡ true → ⊥) → (old : Option (List ℕ)) → cond b value old ≡ old
-    by true no old = absurd (no refl)
-    by false no old = refl
+    by true never old = absurd (never refl)
+    by false never old = refl
 
 pub written_short : (v : Version) (at : ℕ) (bytes : List ℕ) → at + length bytes < 2 ^ 63 → length v.bytes < 2 ^ 63 → length (written_in v at bytes).bytes < 2 ^ 63
 written_short v at [] fit short = short
@@ -234,3 +236,21 @@ sync_all_call s true f y l f2 y2 done = record {
   stays = (same_state (flush true s) f y l f2 y2 l).stays;
   all = λ is c may. (synced_all_image (synced_all s.now) c may).1;
 }
+
+-- ---- what the data shows of the tree as it reads
+
+module _ (store : Store) {t : Tree} (reads : t ≡ tree_of store) where
+  pub seen_there : (p : Path) → t.at p ≢ None → names_at store.names p ≢ None
+  seen_there p there e = there (ap (λ (x : Tree). x.at p) reads ∙ e)
+
+  pub seen_snap : (seq : ℕ) → t.snap seq ≢ None → (tree_of store).snap seq ≢ None
+  seen_snap seq there e = there (ap (λ (x : Tree). x.snap seq) reads ∙ e)
+
+  pub if_changed : (p : Path) (fn : Version → Version) (ev : Result Event AllocError) → IfOk ev (IsChange (tree_of store) p fn) → IfOk ev (IsChange t p fn)
+  if_changed p fn ev is = subst (λ (x : Tree). IfOk ev (IsChange x p fn)) (sym reads) is
+
+  pub if_synced : (p : Path) (ev : Result Event AllocError) → IfOk ev (λ e. (n : ℕ) × (e ≡ SyncFile n) × (names_at store.names p ≡ Some n)) → IfOk ev (λ e. (n : ℕ) × (e ≡ SyncFile n) × (t.at p ≡ Some n))
+  if_synced p ev is = subst (λ (x : Tree). IfOk ev (λ e. (n : ℕ) × (e ≡ SyncFile n) × (x.at p ≡ Some n))) (sym reads) is
+
+pub file_there : (t : Tree) (p : Path) → IsFile t p → t.at p ≢ None
+file_there t p file e = let z : None ≡ Some file.0 = sym e ∙ file.1 in cc

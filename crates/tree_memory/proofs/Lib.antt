@@ -6,12 +6,16 @@ pub mod Dones
 pub mod Edits
 pub mod Goods
 pub mod Keeps
+pub mod Lefts
 pub mod Listings
 pub mod Lists
 pub mod Orders
 pub mod Pushes
+pub mod Readings
 pub mod Renames
+pub mod Replays
 pub mod Rising
+pub mod Rolls
 pub mod Stores
 pub mod Stripped
 pub mod Valids

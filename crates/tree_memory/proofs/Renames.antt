@@ -13,6 +13,8 @@ use Rattle.tree_memory.specs.Paths.{strip}
 use Rattle.tree_memory.specs.Names.{put_at, gone_at, edited, unlinks, links, links_below, IsBelow}
 use Rattle.tree_memory.specs.Log.{run, adds, suits}
 use Rattle.tree_memory.specs.Valid.{dir_at, IsGood, IsValid}
+use Rattle.tree_memory.specs.Told.{tree_of}
+use Rattle.tree_memory.specs.declared.store.Store.{Store}
 use Rattle.tree_memory.specs.Tells.{Follows, Did}
 use Rattle.tree_memory.specs.Events.{IsMove, IsStay, IsMoveAll, IsMoving}
 use Rattle.tree_memory.specs.declared.names.Name.{Name}
@@ -120,7 +122,7 @@ links_low k d (x ∷ l) at f low each =
     and_from (nat_lt x.node k) (links_below k (links d l)) (lt-ltb x.node k (low (f ++ x.rest) x.node (all_head (λ (y : Name). at (f ++ y.rest) ≡ Some y.node) x l each)))
     (links_low k d l at f low (all_tail (λ (y : Name). at (f ++ y.rest) ≡ Some y.node) x l each))
 
-module _ (s : State) (k : ℕ) (valid : IsValid k s.now) (f y l f2 : ℕ) (from to : Path) (away : IsAbove from to → ⊥) (parent : HasParent s.now.tree to) where
+module _ (s : State) (k : ℕ) (valid : IsValid k s.now) (f y l f2 y2 l2 : ℕ) (from to : Path) (away : IsAbove from to → ⊥) (parent : HasParent s.now.tree to) where
   t : Tree
   t = s.now.tree
 
@@ -147,12 +149,12 @@ module _ (s : State) (k : ℕ) (valid : IsValid k s.now) (f y l f2 : ℕ) (from 
         (same_file_move from to s.now.tree.at _ file_to.to (moved_nowhere from to s.now.tree.at one.same) file_to.is)
     ran_file e (inr (inr one)) = absurd (true_false (sym one.dir ∙ one_kind one.node file.0 one.here file.1 ∙ file.2))
 
-    pub file_call : (ev : Result Event AllocError) (new : State) (r : Answer) → IfOk ev (IsMoving s.now.tree from to) → Did ev s new r → NameChange (MovedFile from to) (disk s f y l) (disk new f2 y l) r
+    pub file_call : (ev : Result Event AllocError) (new : State) (r : Answer) → IfOk ev (IsMoving s.now.tree from to) → Did ev s new r → NameChange (MovedFile from to) (disk s f y l) (disk new f2 y2 l2) r
     unfolding file_to
     file_call ev new r is did =
-        by_did s (renamed file_to.to s.now) y l f2 (λ d x. NameChange (MovedFile from to) (disk s f y l) d x)
-        (renames s f y l f2 y l tt (MovedFile from to) file_to.to file_to.is)
-        (λ e. none_named (disk s f y l) (disk s f2 y l) e (same_state s f y l f2 y l) (MovedFile from to) file_to.to file_to.is)
+        by_did s (renamed file_to.to s.now) y2 l2 f2 (λ d x. NameChange (MovedFile from to) (disk s f y l) d x)
+        (renames s f y l f2 y2 l2 tt (MovedFile from to) file_to.to file_to.is)
+        (λ e. none_named (disk s f y l) (disk s f2 y2 l2) e (same_state s f y l f2 y2 l2) (MovedFile from to) file_to.to file_to.is)
         ev (if_ok ev ran_file is) new r did
 
     file_over : (m : ℕ) → s.now.tree.at to ≡ Some m → (s.now.tree.node m).dir ≡ false
@@ -204,11 +206,11 @@ module _ (s : State) (k : ℕ) (valid : IsValid k s.now) (f y l f2 : ℕ) (from 
         ap (λ (x : Event). run x s.now) one.is ∙ ap (λ (es : List Edit). renamed (edited es s.now.tree.at) s.now) one.moves
         ∙ ap (λ (at : Names). renamed at s.now) (same_dir_move from to s.now.tree.at _ dir_to (moved_dir from to one.names s.now.tree.at one.below apart to_free) dir_is)
 
-    pub dir_call : (ev : Result Event AllocError) (new : State) (r : Answer) → IfOk ev (IsMoving s.now.tree from to) → Did ev s new r → NameChange (MovedDir from to) (disk s f y l) (disk new f2 y l) r
+    pub dir_call : (ev : Result Event AllocError) (new : State) (r : Answer) → IfOk ev (IsMoving s.now.tree from to) → Did ev s new r → NameChange (MovedDir from to) (disk s f y l) (disk new f2 y2 l2) r
     dir_call ev new r is did =
-        by_did s (renamed dir_to s.now) y l f2 (λ d x. NameChange (MovedDir from to) (disk s f y l) d x)
-        (renames s f y l f2 y l tt (MovedDir from to) dir_to dir_is)
-        (λ e. none_named (disk s f y l) (disk s f2 y l) e (same_state s f y l f2 y l) (MovedDir from to) dir_to dir_is)
+        by_did s (renamed dir_to s.now) y2 l2 f2 (λ d x. NameChange (MovedDir from to) (disk s f y l) d x)
+        (renames s f y l f2 y2 l2 tt (MovedDir from to) dir_to dir_is)
+        (λ e. none_named (disk s f y l) (disk s f2 y2 l2) e (same_state s f y l f2 y2 l2) (MovedDir from to) dir_to dir_is)
         ev (if_ok ev ran_dir is) new r did
 
     from_not_root : from ≢ []
@@ -248,3 +250,10 @@ module _ (s : State) (k : ℕ) (valid : IsValid k s.now) (f y l f2 : ℕ) (from 
       by : (o : Option ℕ) → s.now.tree.at from ≡ o → o ≢ None → IfOk ev (λ e. IsValid (k + adds e) (run e s.now))
       by None e not = absurd (not refl)
       by (Some n) e not = kind (s.now.tree.node n).dir n e refl
+
+pub if_moving : (store : Store) {t : Tree} (reads : t ≡ tree_of store) (from to : Path) (ev : Result Event AllocError) → IfOk ev (IsMoving (tree_of store) from to) → IfOk ev (IsMoving t from to)
+if_moving store reads from to ev is = subst (λ (x : Tree). IfOk ev (IsMoving x from to)) (sym reads) is
+
+pub free_target : (t : Tree) (from to : Path) → IsDir t from → (t.at to ≡ None) ⊎ (IsFile t from × IsFile t to) → t.at to ≡ None
+free_target t from to dir (inl free) = free
+free_target t from to dir (inr both) = absurd (true_false (sym dir.2 ∙ ap (dirs t) (same_some (t.at from) dir.0 both.0.0 dir.1 both.0.1) ∙ both.0.2))

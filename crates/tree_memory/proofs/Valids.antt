@@ -153,7 +153,7 @@ valid_snapped k seq to h valid whole = record {
 
 -- a root directory alone
 pub valid_start : (at : Names) → at [] ≡ Some 0 → ((s : List ℕ) (p : Path) → at (s ∷ p) ≡ None) → IsValid 1 (settled (record { at = at; node = λ n. record { dir = true; bytes = []; attr = λ k. None }; snap = λ k. None }))
-valid_start at root none = record {
+valid_start at root empty = record {
   maps = λ m is. elim is [
     | inl e ↦ subst (IsGood 1 (λ n. true)) (sym e) (record {
       root = root;
@@ -162,17 +162,17 @@ valid_start at root none = record {
       single = λ p q n one two. only p n one ∙ sym (only q n two);
       low = λ p n one. let z : Some 0 ≡ Some n = sym root ∙ ap at (sym (only p n one)) ∙ one in let y : 0 ≡ n = cc in omega arith;
     })
-    | inr no ↦ absurd no
+    | inr none ↦ absurd none
   ];
-  kinds = λ m u is. elim is [ inl e ↦ ap (λ (w : Version). w.dir) e | inr no ↦ absurd no ];
-  short = λ m u is. elim is [ inl e ↦ subst (λ (w : Version). length w.bytes < 2 ^ 63) (sym e) (lit< tt) | inr no ↦ absurd no ];
+  kinds = λ m u is. elim is [ inl e ↦ ap (λ (w : Version). w.dir) e | inr none ↦ absurd none ];
+  short = λ m u is. elim is [ inl e ↦ subst (λ (w : Version). length w.bytes < 2 ^ 63) (sym e) (lit< tt) | inr none ↦ absurd none ];
   whole = λ seq c there. cc;
 }
   where
     only : (p : Path) (n : ℕ) → at p ≡ Some n → p ≡ []
     only [] n one = refl
-    only (s ∷ p) n one = absurd (let z : None ≡ Some n = sym (none s p) ∙ one in cc)
+    only (s ∷ p) n one = absurd (let z : None ≡ Some n = sym (empty s p) ∙ one in cc)
 
     push_none : (p : Path) (s : List ℕ) (n : ℕ) → at (p ++ s ∷ []) ≡ Some n → ⊥
-    push_none [] s n one = let z : None ≡ Some n = sym (none s []) ∙ one in cc
-    push_none (t ∷ p) s n one = let z : None ≡ Some n = sym (none t (p ++ s ∷ [])) ∙ one in cc
+    push_none [] s n one = let z : None ≡ Some n = sym (empty s []) ∙ one in cc
+    push_none (t ∷ p) s n one = let z : None ≡ Some n = sym (empty t (p ++ s ∷ [])) ∙ one in cc

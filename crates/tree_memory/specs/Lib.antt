@@ -3,6 +3,7 @@ pub mod History
 pub mod Images
 pub mod Kept
 pub mod Laws
+pub mod Leaves
 pub mod Log
 pub mod Mixes
 pub mod Names

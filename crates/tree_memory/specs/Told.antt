@@ -1,5 +1,5 @@
 -- What a tree in memory tells.
-use Rattle.std.specs.Prelude.{◌≡◌, ◌<◌, ℕ, List, [], ◌∷◌, length, Bool, true, Some, None}
+use Rattle.std.specs.Prelude.{◌≡◌, ◌<◌, ℕ, List, [], ◌∷◌, length, take, Bool, true, Some, None}
 use Rattle.fault_count.specs.Plan.{Plan}
 use Rattle.tree_api.specs.Tree.{Path, Names, Tree, new_dir}
 use Rattle.tree_api.specs.Disk.{Disk}
@@ -39,5 +39,7 @@ state origin log synced = flush synced (replay log (start (tree_of origin)))
 pub record IsTied (origin store : Store) (log : List Call) (synced : Bool) : Type 0 where
   pub reads : (state origin log synced).now.tree ≡ tree_of store
   pub valid : IsValid (count_of store) (state origin log synced).now
+  -- and was so after each call
+  pub past : (i : ℕ) → IsValid (nodes_after (count_of origin) (take i log)) (replay (take i log) (start (tree_of origin))).now
   pub suit : all_suit (count_of origin) log ≡ true
   pub count : nodes_after (count_of origin) log ≡ count_of store

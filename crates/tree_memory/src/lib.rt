@@ -7,9 +7,10 @@
 
 mod draws;
 mod event;
-// mod leave;
+mod leave;
 mod making;
 mod memory;
+mod mix;
 mod names;
 mod node;
 mod paths;

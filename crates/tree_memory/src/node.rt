@@ -83,7 +83,7 @@ impl Node {
         Ok(())
     }
 
-    fn set_attr(&mut self, name: &Bytes, value: &Option<Bytes>) -> Result<(), AllocError>
+    pub fn set_attr(&mut self, name: &Bytes, value: &Option<Bytes>) -> Result<(), AllocError>
         ensures ok { OnOk result (version self.new ≡ with_attr (version self.old) name.now value.now) }
         ensures err { OnErr result (version self.new ≡ version self.old) }
     {
@@ -135,7 +135,7 @@ impl Node {
 }
 
 // Lengthens a list of bytes by zeros where it is shorter.
-fn lengthen(bytes: &mut Vec<u8>, len: usize) -> Result<(), AllocError>
+pub fn lengthen(bytes: &mut Vec<u8>, len: usize) -> Result<(), AllocError>
     ensures ok { OnOk result (bytes.new.items ≡ bytes.old.items ++ replicate (len - length bytes.old.items) 0) }
     ensures err { OnErr result (bytes.new.items ≡ bytes.old.items) }
 {
