@@ -69,7 +69,7 @@ unlinks_at d (x ∷ m) at r =
     ∙ ap (λ (b : Bool). chosen (find_name m r) None (cond b None (at (d ++ r)))) (same_front d x.rest r)
     ∙ one_unlink (find_name m r) (same_path r x.rest) x.node (at (d ++ r))
 
-chosen_self : (o g old : Option ℕ) → o ≡ g → old ≡ None → chosen o g old ≡ g
+pub chosen_self : (o g old : Option ℕ) → o ≡ g → old ≡ None → chosen o g old ≡ g
 chosen_self None g old e f = f ∙ e
 chosen_self (Some n) g old e f = refl
 

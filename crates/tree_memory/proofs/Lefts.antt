@@ -1,10 +1,12 @@
 -- An image after an event.
-use Rattle.std.proofs.Common.{◌≡◌, ◌≢◌, ◌⊎◌, inl, inr, ⊎_elim, ℕ, suc, ◌+◌, ◌<◌, ◌≤◌, List, [], ◌∷◌, ◌++◌, length, map, Bool, true, false, Option, Some, refl, sym, ◌∙◌, ap, subst, arith}
+use Rattle.std.proofs.Common.{◌≡◌, ◌≢◌, ◌⊎◌, inl, inr, ⊎_elim, ℕ, suc, ◌+◌, ◌<◌, ◌≤◌, List, [], ◌∷◌, ◌++◌, length, map, Bool, true, false, cond, Option, Some, refl, sym, ◌∙◌, ap, subst, arith}
 use Rattle.std.proofs.lemmas.Bool.{cases_eq}
 use Rattle.tree_api.specs.Tree.{Path, Version, Names, Content, Tree, Mix, content}
 use Rattle.tree_memory.specs.History.{History, Among, IsMix, IsImage, put, renamed, wrote, made, synced, synced_names, synced_all, snapped, rolled, fill, unchanged}
+use Rattle.tree_memory.specs.Paths.{same_step}
+use Rattle.tree_memory.proofs.Orders.{same_step_is}
 use Rattle.tree_memory.specs.Names.{names_at}
-use Rattle.tree_memory.specs.Nodes.{version, node_of}
+use Rattle.tree_memory.specs.Nodes.{version, node_of, with_attr}
 use Rattle.tree_memory.specs.Told.{tree_of, count_of}
 use Rattle.tree_memory.specs.Leaves.{seen, settle, IsLeft}
 use Rattle.tree_memory.specs.Mixes.{mix_first}
@@ -108,3 +110,16 @@ left_settled true h now old new reads left copied same =
     tree_at : h.tree ≡ tree_of new
     tree_at = reads ∙ sym (copied refl)
 left_settled false h now old new reads left copied same = subst (λ (t : Tree). IsImage h (record t { snap = h.tree.snap })) (sym (same refl)) left
+
+-- an attribute is taken over
+pub attr_mix : (a b v : Version) (name : List ℕ) (value : Option (List ℕ)) → v ≡ with_attr a name value → value ≡ b.attr name → Mix a b v
+attr_mix a b v name value is from = subst (Mix a b) (sym is) (record {
+  dir = refl;
+  len = inl refl;
+  byte = λ i lt. inl refl;
+  attr = λ k. by (same_step name k) k (λ e. from ∙ ap b.attr (same_step_is name k e));
+})
+  where
+    by : (t : Bool) (k : List ℕ) → (t ≡ true → value ≡ b.attr k) → (cond t value (a.attr k) ≡ a.attr k) ⊎ (cond t value (a.attr k) ≡ b.attr k)
+    by true k same = inr (same refl)
+    by false k same = inl refl

@@ -4,6 +4,7 @@ pub mod Calls
 pub mod Copies
 pub mod Dones
 pub mod Edits
+pub mod Follows
 pub mod Goods
 pub mod Keeps
 pub mod Lefts

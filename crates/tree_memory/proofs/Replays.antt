@@ -1,8 +1,8 @@
 -- An image that is followed through the log.
-use Rattle.std.proofs.Common.{◌≡◌, inl, ℕ, ◌+◌, ◌<◌, ◌&&◌, List, [], ◌∷◌, ◌++◌, length, take, drop, get_or, Bool, true, false, Some, refl, sym, ◌∙◌, ap, subst, arith}
+use Rattle.std.proofs.Common.{◌≡◌, inl, ℕ, ◌+◌, ◌<◌, ◌&&◌, List, [], ◌∷◌, ◌++◌, length, take, drop, get_or, Bool, true, false, Option, Some, refl, sym, ◌∙◌, ap, subst, arith}
 use Rattle.std.proofs.lemmas.Bool.{and_parts}
 use Rattle.std.proofs.lemmas.List.{take_more, drop_more, take_all}
-use Rattle.tree_api.specs.Tree.{Path, Tree}
+use Rattle.tree_api.specs.Tree.{Path, Content, Tree}
 use Rattle.tree_memory.specs.History.{History, State, IsImage, settled}
 use Rattle.tree_memory.specs.Names.{names_at}
 use Rattle.tree_memory.specs.Log.{run, ran, flush, step, replay, start, adds, suits, all_suit, nodes_after}
@@ -88,3 +88,11 @@ module _ (origin store now image : Store) (log : List Call) (synced : Bool) (i :
 
   pub followed_count : length log ≡ i → count_of now ≡ count_of store
   followed_count e = so_far.count ∙ ap (nodes_after (count_of origin)) (take_all i log (omega (arith, e))) ∙ tied.count
+
+  -- at the end, with the snapshots as they are
+  pub followed_left : length log ≡ i → (left : Store) → IsLeft (settle synced (at_call origin log i)) left → IsImage (state origin log synced).now (record (tree_of left) { snap = (tree_of now).snap })
+  followed_left e left is =
+      let last : settle synced (at_call origin log i) ≡ (state origin log synced).now = ap (settle synced) (followed_end e) ∙ sym (flushed synced (replay log (start (tree_of origin)))) in
+      let snaps : (settle synced (at_call origin log i)).tree.snap ≡ (tree_of now).snap = ap (λ (t : Tree). t.snap) (settle_tree synced (at_call origin log i) ∙ so_far.reads) in
+      subst (λ (h : History). IsImage h (record (tree_of left) { snap = (tree_of now).snap })) last
+      (subst (λ (f : ℕ → Option Content). IsImage (settle synced (at_call origin log i)) (record (tree_of left) { snap = f })) snaps is)

@@ -111,7 +111,7 @@ module _ (k : ℕ) (at : Names) (l : List Name) (ps : List Path) (below : IsBelo
           ap (λ (m : ℕ). find_name (numbered m ps) (get_or ps i d)) (sym e) ∙ find_shift 0 j ps (get_or ps i d) i (each i d lt))
 
 module _ (s : State) (k : ℕ) (valid : IsValid k s.now) (l : List Name) (kept : List Kept) (below : IsBelow s.now.tree.at current l) (each : IsEach (rests_of kept)) where
-  new_names : Names
+  pub new_names : Names
   new_names = rolled_names k s.now.tree.at l (rests_of kept) below each
 
   off_current : (q : Path) → ((r : Path) → q ≢ current ++ r) → new_names q ≡ s.now.tree.at q
@@ -401,14 +401,14 @@ module _ (s : State) (store : Store) (valid : IsValid (count_of store) s.now) (r
 
   none_done : (kept : Content) (new : State) (r : Answer) → (OnOk r ⊥ × OnErr r (new ≡ s)) → Rollback kept (disk s f y l) (disk new f2 y2 l2) r
   none_done kept new (Ok x) did = absurd did.0
-  none_done kept new (Err e) did = subst (λ (t : State). Rollback kept (disk s f y l) (disk t f2 y2 l2) (Err e)) (sym did.1) (none_rolled (disk s f y l) (disk s f2 y2 l2) e (same_state s f y l f2 y2 l2) kept)
+  none_done kept new (Err e) did = subst (λ (t : State). Rollback {T = Unit {0}} kept (disk s f y l) (disk t f2 y2 l2) (Err e)) (sym did.1) (none_rolled (disk s f y l) (disk s f2 y2 l2) e (same_state s f y l f2 y2 l2) kept)
 
   one_done : (kept : Content) → s.now.tree.snap seq ≡ Some kept → (e : Event) → IsRestoring store seq e → (new : State) (r : Answer) → Follows (run e s.now) s new r → Rollback kept (disk s f y l) (disk new f2 y2 l2) r
   unfolding next_one
   one_done kept there e is new (Ok tt) did =
-      subst (λ (t : State). Rollback kept (disk s f y l) (disk t f2 y2 l2) (Ok tt)) (sym did.ok)
-      (subst (λ (h : History). Rollback kept (disk s f y l) (disk (next h s) f2 y2 l2) (Ok tt)) (sym (ran_one e is))
-      (subst (λ (x : Content). Rollback x (disk s f y l) (disk (next (next_one e is) s) f2 y2 l2) (Ok tt)) (kept_there e is kept there)
+      subst (λ (t : State). Rollback {T = Unit {0}} kept (disk s f y l) (disk t f2 y2 l2) (Ok tt)) (sym did.ok)
+      (subst (λ (h : History). Rollback {T = Unit {0}} kept (disk s f y l) (disk (next h s) f2 y2 l2) (Ok tt)) (sym (ran_one e is))
+      (subst (λ (x : Content). Rollback {T = Unit {0}} x (disk s f y l) (disk (next (next_one e is) s) f2 y2 l2) (Ok tt)) (kept_there e is kept there)
       (rolls s (count_of store) valid is.names is.kept (below_now e is) is.each f y l f2 y2 l2)))
   one_done kept there e is new (Err x) did = none_done kept new (Err x) (tt, did.err)
 

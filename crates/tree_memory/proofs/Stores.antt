@@ -113,7 +113,7 @@ kept_content t l kept below e = λ i r. (
 ) i
 
 -- no path comes twice
-find_shift : (k n : ℕ) (ps : List Path) (r : Path) (m : ℕ) → find_name (numbered k ps) r ≡ Some m → find_name (numbered (k + n) ps) r ≡ Some (m + n)
+pub find_shift : (k n : ℕ) (ps : List Path) (r : Path) (m : ℕ) → find_name (numbered k ps) r ≡ Some m → find_name (numbered (k + n) ps) r ≡ Some (m + n)
 find_shift k n [] r m e = cc
 find_shift k n (p ∷ ps) r m e = by (same_path r p) e (λ h. let s : suc (k + n) ≡ suc k + n = omega arith in ap (λ (j : ℕ). find_name (numbered j ps) r) s ∙ find_shift (suc k) n ps r m h)
   where

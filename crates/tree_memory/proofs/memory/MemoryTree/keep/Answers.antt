@@ -31,7 +31,7 @@ invariant_of-self-2 c =
     let e = c.in_ok-push.ensures.items in
     let ok = sym c.is_err.ensures.value ∙ c.if-is_err.false in
     let call : Call = record { synced = m.synced; event = c.args.event } in
-    let item = last_call m.log.items c.push.new.self.items call c.index.result.now _ e (pushed_at m.log.items c.push.new.self.items call _ e (c.len.ensures ∙ c.push.new.self.ok.0)) c.index.ensures in
+    let item = last_call m.log.items c.push.new.self.items call c.index.result.now _ e (pushed_at m.log.items c.push.new.self.items call _ e (c.len-last.ensures ∙ c.push.new.self.ok.0)) c.index.ensures in
     let event : c.index.result.now.event ≡ c.args.event = ap (λ (x : Call). x.event) item in
     record {
       few = m.few;

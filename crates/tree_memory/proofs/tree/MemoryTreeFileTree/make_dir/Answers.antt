@@ -15,7 +15,7 @@ call-requires-clause-suits c =
 pub call-requires-clause-valid : goal.call-requires-clause-valid
 call-requires-clause-valid c =
     let m = c.args.self.now in
-    make_valid (state_of m) (count_of m.store) m.tied.valid m.plan.faults m.syncs m.looks 0 0 0 c.args.path.now true c.making-event.result (c.requires tt).0 (c.requires tt).1 c.making-event.ensures
+    make_valid (state_of m) (count_of m.store) m.tied.valid m.plan.faults m.syncs m.looks 0 0 0 c.args.path.now true c.making-event.result (c.requires.free tt).0 (c.requires.free tt).1 c.making-event.ensures
 
 pub returns-clause-change : goal.returns-clause-change
 returns-clause-change c = λ t.

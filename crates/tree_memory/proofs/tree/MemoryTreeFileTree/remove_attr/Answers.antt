@@ -9,7 +9,7 @@ use Rattle.tree_memory.proofs.tree.MemoryTreeFileTree.remove_attr.Goals as goal
 pub unsetting-event-requires : goal.unsetting-event-requires
 unsetting-event-requires c =
     let m = c.args.self.now in
-    seen_there m.store m.tied.reads c.args.path.now (c.requires tt)
+    seen_there m.store m.tied.reads c.args.path.now (c.requires.there tt)
 
 pub call-requires-clause-suits : goal.call-requires-clause-suits
 call-requires-clause-suits c =
@@ -19,10 +19,10 @@ call-requires-clause-suits c =
 pub call-requires-clause-valid : goal.call-requires-clause-valid
 call-requires-clause-valid c =
     let m = c.args.self.now in
-    change_valid (state_of m) (count_of m.store) m.tied.valid m.plan.faults m.syncs m.looks 0 0 0 c.args.path.now (AttrIs c.args.name.now None) (λ v. with_attr v c.args.name.now None) (attr_is c.args.name.now None) (λ v. refl) (c.requires tt) c.unsetting-event.result (λ v short. short) (if_changed m.store m.tied.reads c.args.path.now (λ v. with_attr v c.args.name.now None) c.unsetting-event.result c.unsetting-event.ensures)
+    change_valid (state_of m) (count_of m.store) m.tied.valid m.plan.faults m.syncs m.looks 0 0 0 c.args.path.now (AttrIs c.args.name.now None) (λ v. with_attr v c.args.name.now None) (attr_is c.args.name.now None) (λ v. refl) (c.requires.there tt) c.unsetting-event.result (λ v short. short) (if_changed m.store m.tied.reads c.args.path.now (λ v. with_attr v c.args.name.now None) c.unsetting-event.result c.unsetting-event.ensures)
 
 pub returns-clause-change : goal.returns-clause-change
 returns-clause-change c = λ t.
     let m = c.args.self.now in
     let n = c.call.new.self in
-    change_call (state_of m) (count_of m.store) m.tied.valid m.plan.faults m.syncs m.looks n.plan.faults n.syncs n.looks c.args.path.now (AttrIs c.args.name.now None) (λ v. with_attr v c.args.name.now None) (attr_is c.args.name.now None) (λ v. refl) (c.requires tt) c.unsetting-event.result (state_of n) c.call.result (if_changed m.store m.tied.reads c.args.path.now (λ v. with_attr v c.args.name.now None) c.unsetting-event.result c.unsetting-event.ensures) c.call.ensures.did
+    change_call (state_of m) (count_of m.store) m.tied.valid m.plan.faults m.syncs m.looks n.plan.faults n.syncs n.looks c.args.path.now (AttrIs c.args.name.now None) (λ v. with_attr v c.args.name.now None) (attr_is c.args.name.now None) (λ v. refl) (c.requires.there tt) c.unsetting-event.result (state_of n) c.call.result (if_changed m.store m.tied.reads c.args.path.now (λ v. with_attr v c.args.name.now None) c.unsetting-event.result c.unsetting-event.ensures) c.call.ensures.did

@@ -14,7 +14,7 @@ call-requires-clause-suits c =
 pub call-requires-clause-valid : goal.call-requires-clause-valid
 call-requires-clause-valid c =
     let m = c.args.self.now in
-    gone_file_valid (state_of m) (count_of m.store) m.tied.valid m.plan.faults m.syncs m.looks 0 0 0 c.args.path.now c.removing-event.result (c.requires tt) c.removing-event.ensures
+    gone_file_valid (state_of m) (count_of m.store) m.tied.valid m.plan.faults m.syncs m.looks 0 0 0 c.args.path.now c.removing-event.result (c.requires.file tt) c.removing-event.ensures
 
 pub returns-clause-change : goal.returns-clause-change
 returns-clause-change c = λ t.

@@ -10,7 +10,7 @@ use Rattle.tree_memory.proofs.tree.MemoryTreeFileTree.rollback.Goals as goal
 pub restoring-event-requires : goal.restoring-event-requires
 restoring-event-requires c =
     let m = c.args.self.now in
-    seen_snap m.store m.tied.reads c.args.seq (c.requires tt)
+    seen_snap m.store m.tied.reads c.args.seq (c.requires.there tt)
 
 pub call-requires-clause-suits : goal.call-requires-clause-suits
 call-requires-clause-suits c =
