@@ -279,6 +279,7 @@ module _ (s : State) (k : ℕ) (valid : IsValid k s.now) (l : List Name) (kept :
         ap (dir_at (dirs after.tree)) (in_current q) ∙ sym (held_dir after.tree.node (find_name (numbered k (rests_of kept)) q)) ∙ ap kept_dir (held_filled kept k s.now.tree.node q)
 
     pub rolled_good : IsGood (k + length (versions kept)) (dirs after.tree) new_names
+    unfolding after
     rolled_good = record {
       root = root_now;
       top = top_now;

@@ -16,7 +16,7 @@ returns-clause-mixed c =
     (λ m. (
       version c.mix.new.self,
       subst (λ (v : Version). Mix v (node_of now n) (version c.mix.new.self)) (node_read old n _ c.requires.there c.index_mut-left.ensures.value)
-          (subst (λ (v : Version). Mix _ v (version c.mix.new.self)) (node_read now n _ low c.index.ensures) m),
+          (subst (λ (v : Version). Mix (version c.index_mut-left.result.now) v (version c.mix.new.self)) (node_read now n _ low c.index.ensures) m),
       node_set old n c.mix.new.self c.requires.there,
     ))
     c.mix.ensures
