@@ -52,8 +52,8 @@ keys_same (e ∷ es) = ap (λ l. e.0 ∷ l) (keys_same es)
 pub copied_all : (m n : BTreeMap ℕ Snap) (es : List (ℕ × Snap)) → es ≡ m.entries → IsStrictlySortedBy nat_cmp (keys_of m.entries)
     → ((q : ℕ) → get_content n q ≡ update_all (eq_by_cmp nat_cmp) at_none (contents es) q) → get_content n ≡ get_content m
 copied_all m n es e sorted all = λ i q. (
-  all q
-  ∙ ap (λ (l : List (ℕ × Snap)). update_all (eq_by_cmp nat_cmp) at_none (contents l) q) e
-  ∙ update_all_none (eq_by_cmp_equiv nat_cmp_total) (eq_by_cmp nat_cmp) (λ x y. refl) (contents m.entries) q (subst (IsDistinct (eq_by_cmp nat_cmp)) (sym (keys_same m.entries)) (IsDistinct-from_sorted nat_cmp _ sorted))
-  ∙ lookup-map_values content_in (eq_by_cmp nat_cmp q) m.entries
-) i
+    all q
+    ∙ ap (λ (l : List (ℕ × Snap)). update_all (eq_by_cmp nat_cmp) at_none (contents l) q) e
+    ∙ update_all_none (eq_by_cmp_equiv nat_cmp_total) (eq_by_cmp nat_cmp) (λ x y. refl) (contents m.entries) q (subst (IsDistinct (eq_by_cmp nat_cmp)) (sym (keys_same m.entries)) (IsDistinct-from_sorted nat_cmp _ sorted))
+    ∙ lookup-map_values content_in (eq_by_cmp nat_cmp q) m.entries
+    ) i

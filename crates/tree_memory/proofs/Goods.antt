@@ -169,7 +169,7 @@ module _ (k : ℕ) (dir : ℕ → Bool) (at : Names) (good : IsGood k dir at) wh
         keeps_dir q is_dir =
             let not_old : q ≢ from = λ e. true_is_false _ is_dir (ap (λ (x : Path). dir_at dir (at x)) e ∙ ap (dir_at dir) here ∙ file) in
             let not_new : q ≢ to = λ e. let there = some_of (at q) (dir_some dir (at q) is_dir) in
-                true_is_false _ is_dir (ap (dir_at dir) there.1 ∙ over there.0 (ap at (sym e) ∙ there.1)) in
+            true_is_false _ is_dir (ap (dir_at dir) there.1 ∙ over there.0 (ap at (sym e) ∙ there.1)) in
             ap (dir_at dir) (is.others q not_old not_new) ∙ is_dir
 
     -- where a name was before

@@ -61,7 +61,6 @@ module _ (origin store : Store) (log : List Call) (synced : Bool) (tied : IsTied
         (suit_push (count_of origin) log (record { synced = synced; event = e }) tied.suit (ap (λ (m : ℕ). suits m e) tied.count ∙ suit));
     count = ap (nodes_after (count_of origin)) is ∙ after_push (count_of origin) log (record { synced = synced; event = e }) ∙ ap (λ (m : ℕ). m + adds e) tied.count ∙ sym count;
   }
-
     where
       past_kept : (i : ℕ) → IsValid (nodes_after (count_of origin) (take i new)) (replay (take i new) (start (tree_of origin))).now
       past_kept i = elim (cases_lt (length log) i) [

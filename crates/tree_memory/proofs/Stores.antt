@@ -109,8 +109,8 @@ found_content node (x ∷ l) r = ap (cond (same_path r x.rest) (Some (node x.nod
 
 pub kept_content : (t : Tree) (l : List Name) (kept : List Kept) → IsBelow t.at current l → map pair kept ≡ map (λ (x : Name). (x.rest, t.node x.node)) l → content_of kept ≡ content t
 kept_content t l kept below e = λ i r. (
-  content_paired kept r ∙ ap (λ (ps : List (Path × Version)). paired ps r) e ∙ found_content t.node l r ∙ ap (λ (o : Option ℕ). held o t.node) (below.find r)
-) i
+    content_paired kept r ∙ ap (λ (ps : List (Path × Version)). paired ps r) e ∙ found_content t.node l r ∙ ap (λ (o : Option ℕ). held o t.node) (below.find r)
+    ) i
 
 -- no path comes twice
 pub find_shift : (k n : ℕ) (ps : List Path) (r : Path) (m : ℕ) → find_name (numbered k ps) r ≡ Some m → find_name (numbered (k + n) ps) r ≡ Some (m + n)

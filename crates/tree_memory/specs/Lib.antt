@@ -9,6 +9,7 @@ pub mod Mixes
 pub mod Names
 pub mod Nodes
 pub mod Paths
+pub mod Seen
 pub mod Snaps
 pub mod Sounds
 pub mod Tells

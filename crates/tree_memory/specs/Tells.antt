@@ -31,10 +31,10 @@ abbrev pub Fails : Plan → Type 0
 Fails plan = Contains plan.fail (one_more plan.calls)
 
 -- a call took its number, and was refused exactly where it was to be
-pub record IsNumbered {T : Type 0} (old new : Plan) (result : Result T TreeError) : Type 0 where
+pub record IsNumbered (old new : Plan) (refused : Type 0) : Type 0 where
   pub number : new.calls ≡ one_more old.calls
   pub same : new.fail ≡ old.fail
-  pub refused : IsErrOf result Refused ↔ Fails old
+  pub named : refused ↔ Fails old
 
 -- after a call that is answered, this history follows; after another, nothing has changed
 pub record Follows {T E : Type 0} (h : History) (old new : State) (result : Result T E) : Type 0 where

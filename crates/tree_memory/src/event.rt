@@ -22,7 +22,9 @@ pub enum Event {
         dir: bool,
     },
     /// A name that goes.
-    Remove { place: Place },
+    Remove {
+        place: Place,
+    },
     /// A name that moves, over one that may stand there.
     Move {
         from: Place,
@@ -30,17 +32,28 @@ pub enum Event {
         node: usize,
     },
     /// Changes of many names.
-    MoveAll { edits: Vec<Edit> },
+    MoveAll {
+        edits: Vec<Edit>,
+    },
     /// A change of a node.
-    Change { node: usize, change: Change },
+    Change {
+        node: usize,
+        change: Change,
+    },
     /// A sync of a node and of all names.
-    SyncFile { node: usize },
+    SyncFile {
+        node: usize,
+    },
     /// A sync of all names.
     SyncNames,
     /// A snapshot.
-    Snapshot { seq: u64 },
+    Snapshot {
+        seq: u64,
+    },
     /// A snapshot that goes.
-    DropSnapshot { seq: u64 },
+    DropSnapshot {
+        seq: u64,
+    },
     /// New nodes, the first of this number, and changes of names, after which all names are stable.
     Rollback {
         first: usize,

@@ -22,5 +22,5 @@ mod tree;
 
 pub use memory::MemoryTree;
 
-// #[cfg(test)]
-// mod tests;
+#[cfg(test)]
+mod tests;

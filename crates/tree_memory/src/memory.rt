@@ -28,8 +28,8 @@ pub struct MemoryTree {
 }
 
 impl MemoryTree {
-    ghost use Rattle.std.specs.Prelude.{◌≡◌, ◌+◌, true, IfOk, IfErr, OnErr, OnOk, is_ok, Ok};
-    ghost use Rattle.tree_api.specs.declared.tree.TreeError.TheVariants.{Memory};
+    ghost use Rattle.std.specs.Prelude.{◌≡◌, ◌+◌, true, IfOk, IfErr, IsErrOf};
+    ghost use Rattle.tree_api.specs.declared.tree.TreeError.TheVariants.{Memory, Refused};
     ghost use Rattle.tree_api.specs.Disk.{Quiet};
     ghost use Rattle.tree_memory.specs.History.{settled};
     ghost use Rattle.tree_memory.specs.Log.{run, start, suits, adds};
@@ -50,7 +50,11 @@ impl MemoryTree {
     }
 
     // A tree that reads so and is stable.
-    pub(crate) fn holding(alloc: Global, origin: Store, fail: Vec<u64>) -> Result<MemoryTree, AllocError>
+    pub(crate) fn holding(
+        alloc: Global,
+        origin: Store,
+        fail: Vec<u64>,
+    ) -> Result<MemoryTree, AllocError>
         requires { IsValid (count_of origin) (settled (tree_of origin)) }
         ensures state { IfOk result (λ m. state_of m ≡ start (tree_of origin)) }
         ensures plan { IfOk result (λ m. plan_of m ≡ record { fail = fail.items; calls = 0; faults = 0 }) }
@@ -105,7 +109,7 @@ impl MemoryTree {
         requires suits { IfOk event (λ e. suits (count_of self.old.store) e ≡ true) }
         requires valid { IfOk event (λ e. IsValid (count_of self.old.store + adds e) (run e (history_of self.old))) }
         ensures did { Did event (state_of self.old) (state_of self.new) result }
-        ensures plan { IsNumbered (plan_of self.old) (plan_of self.new) result }
+        ensures plan { IsNumbered (plan_of self.old) (plan_of self.new) (IsErrOf result Refused) }
         ensures counts { Quiet (disk_of self.old) (disk_of self.new) result }
     {
         if self.plan.next() {

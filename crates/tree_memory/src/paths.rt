@@ -32,7 +32,11 @@ fn leads_to(dir: &TreePath, path: &TreePath) -> bool
 }
 
 /// The steps of a path that come after a directory's, none where it leads elsewhere.
-pub fn rest_of(alloc: Global, dir: &TreePath, path: &TreePath) -> Result<Option<TreePath>, AllocError>
+pub fn rest_of(
+    alloc: Global,
+    dir: &TreePath,
+    path: &TreePath,
+) -> Result<Option<TreePath>, AllocError>
     ensures { IfOk result (λ r. r ≡ strip dir.now path.now) }
 {
     if !leads_to(dir, path) {

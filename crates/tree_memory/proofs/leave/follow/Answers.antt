@@ -25,8 +25,8 @@ returns-in_ok-push-in-Make-clause-image c =
     let low : n < count_of now = omega (arith, place, more) in
     on_ok_weaker c.follow_names.result
     (λ names h reads left. subst (λ (e : Event). IsLeft (run e h) c.follow_names.new.image) (sym is)
-        (make_left h image c.follow_names.new.image now left c.in-Make.path n c.in-Make.dir c.in_ok-copy-in-Make.field-0 (ap (λ (e : Event). (run e h).tree) (sym is) ∙ reads) place
-        (c.in_ok-copy-in-Make.ensures ∙ node_read now.nodes.items n _ low c.index.ensures) (ap (λ v. v.items) c.follow_names.ensures.nodes ∙ c.in_ok-push-in-Make.ensures.items) names))
+    (make_left h image c.follow_names.new.image now left c.in-Make.path n c.in-Make.dir c.in_ok-copy-in-Make.field-0 (ap (λ (e : Event). (run e h).tree) (sym is) ∙ reads) place
+    (c.in_ok-copy-in-Make.ensures ∙ node_read now.nodes.items n _ low c.index.ensures) (ap (λ v. v.items) c.follow_names.ensures.nodes ∙ c.in_ok-push-in-Make.ensures.items) names))
     c.follow_names.ensures.names
 
 pub returns-in-Change-clause-image : goal.returns-in-Change-clause-image
@@ -34,7 +34,7 @@ returns-in-Change-clause-image c =
     let is = c.in-Change.is in
     on_ok_weaker c.follow_node.result
     (λ m h reads left. subst (λ (e : Event). IsLeft (run e h) c.follow_node.new.image) (sym is)
-        (change_left h c.args.image.now c.follow_node.new.image c.args.now.now left c.in-Change.node c.in-Change.change m.0 (ap (λ (e : Event). (run e h).tree) (sym is) ∙ reads) m.1 c.follow_node.ensures.names m.2))
+    (change_left h c.args.image.now c.follow_node.new.image c.args.now.now left c.in-Change.node c.in-Change.change m.0 (ap (λ (e : Event). (run e h).tree) (sym is) ∙ reads) m.1 c.follow_node.ensures.names m.2))
     c.follow_node.ensures.mixed
 
 pub returns-in_ok-image-in-SyncFile-clause-image : goal.returns-in_ok-image-in-SyncFile-clause-image
@@ -48,8 +48,8 @@ returns-in_ok-image-in-SyncFile-clause-image c =
     let low : n < count_of now = omega (arith, there, same) in
     on_ok_weaker c.adopt_names.result
     (λ names h reads left. subst (λ (e : Event). IsLeft (run e h) c.adopt_names.new.image) (sym is)
-        (sync_left h image c.adopt_names.new.image now left n c.in_ok-image-in-SyncFile.field-0 (ap (λ (e : Event). (run e h).tree) (sym is) ∙ reads) there
-        (c.in_ok-image-in-SyncFile.ensures ∙ node_read now.nodes.items n _ low c.index-in-SyncFile.ensures) names (ap (λ v. v.items) c.adopt_names.ensures.nodes)))
+    (sync_left h image c.adopt_names.new.image now left n c.in_ok-image-in-SyncFile.field-0 (ap (λ (e : Event). (run e h).tree) (sym is) ∙ reads) there
+    (c.in_ok-image-in-SyncFile.ensures ∙ node_read now.nodes.items n _ low c.index-in-SyncFile.ensures) names (ap (λ v. v.items) c.adopt_names.ensures.nodes)))
     c.adopt_names.ensures.names
 
 pub returns-in_ok-add_copies-in-Rollback-clause-image : goal.returns-in_ok-add_copies-in-Rollback-clause-image
@@ -62,8 +62,8 @@ returns-in_ok-add_copies-in-Rollback-clause-image c =
     let place : first ≡ count_of image = eqb-true first (count_of image) (and_parts (first == count_of image) (links_below (count_of image + length nodes) c.in-Rollback.edits.items) (ap (suits (count_of image)) (sym is) ∙ c.requires.suits)).0 in
     on_ok_weaker c.adopt_names-in-Rollback.result
     (λ names h reads left. subst (λ (e : Event). IsLeft (run e h) c.adopt_names-in-Rollback.new.image) (sym is)
-        (roll_left h image c.adopt_names-in-Rollback.new.image now left first nodes (edited c.in-Rollback.edits.items h.tree.at) (ap (λ (e : Event). (run e h).tree) (sym is) ∙ reads) place
-        (ap (λ v. map version v.items) c.adopt_names-in-Rollback.ensures.nodes ∙ c.in_ok-add_copies-in-Rollback.ensures.ok ∙ ap (λ (l : List Node). map version image.nodes.items ++ map version l) c.deref.ensures.value) names))
+    (roll_left h image c.adopt_names-in-Rollback.new.image now left first nodes (edited c.in-Rollback.edits.items h.tree.at) (ap (λ (e : Event). (run e h).tree) (sym is) ∙ reads) place
+    (ap (λ v. map version v.items) c.adopt_names-in-Rollback.ensures.nodes ∙ c.in_ok-add_copies-in-Rollback.ensures.ok ∙ ap (λ (l : List Node). map version image.nodes.items ++ map version l) c.deref.ensures.value) names))
     c.adopt_names-in-Rollback.ensures.names
 
 pub returns-in_ok-add_copies-in-Rollback-clause-count : goal.returns-in_ok-add_copies-in-Rollback-clause-count
@@ -73,5 +73,5 @@ returns-in_ok-add_copies-in-Rollback-clause-count c =
     let added = c.in_ok-add_copies-in-Rollback.ensures.ok ∙ ap (λ (l : List Node). map version image.nodes.items ++ map version l) c.deref.ensures.value in
     on_ok_weaker c.adopt_names-in-Rollback.result
     (λ names. ap (λ v. length v.items) c.adopt_names-in-Rollback.ensures.nodes ∙ count_added image.nodes.items c.add_copies.new.into.items (map version c.in-Rollback.nodes.items) added
-        ∙ ap (λ (n : ℕ). count_of image + n) (length-map c.in-Rollback.nodes.items version) ∙ ap (λ (e : Event). count_of image + adds e) (sym is) ∙ c.requires.count)
+    ∙ ap (λ (n : ℕ). count_of image + n) (length-map c.in-Rollback.nodes.items version) ∙ ap (λ (e : Event). count_of image + adds e) (sym is) ∙ c.requires.count)
     c.adopt_names-in-Rollback.ensures.names

@@ -12,7 +12,7 @@ loop-place-preserved-in-Continue-branch-3 c =
 
 pub loop-place-preserved : goal.loop-place-preserved
 loop-place-preserved c =
-        below_none c.args.dir.now (map deref_pair c.loop-place.yielded) c.loop-place.names.items _ _ _ _ c.loop-place.invariant c.place.view_is c.in_ok-rest.ensures c.in_default.is
+    below_none c.args.dir.now (map deref_pair c.loop-place.yielded) c.loop-place.names.items _ _ _ _ c.loop-place.invariant c.place.view_is c.in_ok-rest.ensures c.in_default.is
     ∙ ap (below_list c.args.dir.now) (sym (map-append deref_pair c.loop-place.yielded ((c.in-Some.place, c.in-Some.node) ∷ [])))
 
 pub returns : goal.returns

@@ -9,7 +9,7 @@ use Rattle.tree_memory.proofs.tree.MemoryTreeFileTree.snapshot.Goals as goal
 pub call-requires-clause-valid : goal.call-requires-clause-valid
 call-requires-clause-valid c =
     let m = c.args.self.now in
-    snap_valid (state_of m) (count_of m.store) m.tied.valid m.plan.faults m.syncs m.looks 0 0 0 c.args.seq 
+    snap_valid (state_of m) (count_of m.store) m.tied.valid m.plan.faults m.syncs m.looks 0 0 0 c.args.seq
 
 pub returns-clause-change : goal.returns-clause-change
 returns-clause-change c = λ t.

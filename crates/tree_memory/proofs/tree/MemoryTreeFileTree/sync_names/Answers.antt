@@ -9,7 +9,7 @@ use Rattle.tree_memory.proofs.tree.MemoryTreeFileTree.sync_names.Goals as goal
 pub call-requires-clause-valid : goal.call-requires-clause-valid
 call-requires-clause-valid c =
     let m = c.args.self.now in
-    names_valid (state_of m) (count_of m.store) m.tied.valid m.plan.faults m.syncs m.looks 0 0 0 
+    names_valid (state_of m) (count_of m.store) m.tied.valid m.plan.faults m.syncs m.looks 0 0 0
 
 pub returns-clause-synced : goal.returns-clause-synced
 returns-clause-synced c = λ t.
