@@ -1,0 +1,7 @@
+use Rattle.std.proofs.Common.{take, drop}
+use Rattle.tree_memory.specs.Told.{tree_of, count_of}
+use Rattle.tree_memory.proofs.Replays.{IsFollowed}
+use Rattle.tree_memory.proofs.memory.MemoryTree.image.Given as goal
+
+abbrev pub invariant-loop-call : goal.invariant-loop-call
+invariant-loop-call l = IsFollowed l.self.origin l.self.log.items l.call-index l.now l.image

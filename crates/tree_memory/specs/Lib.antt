@@ -1,0 +1,17 @@
+pub mod Events
+pub mod History
+pub mod Images
+pub mod Kept
+pub mod Laws
+pub mod Leaves
+pub mod Log
+pub mod Mixes
+pub mod Names
+pub mod Nodes
+pub mod Paths
+pub mod Seen
+pub mod Snaps
+pub mod Sounds
+pub mod Tells
+pub mod Told
+pub mod Valid

@@ -1,0 +1,118 @@
+// Nodes whose cells are each as they were or as they are now.
+ghost use Rattle.std.specs.Prelude.{◌≡◌, ◌⊎◌, ◌<◌, ◌≤◌, ℕ, length, slice_index, OnOk};
+ghost use Rattle.tree_api.specs.Tree.{Mix};
+ghost use Rattle.tree_memory.specs.Nodes.{version};
+
+use crate::draws::Draws;
+use crate::node::{Change, Node, lengthen};
+use std::alloc::AllocError;
+use tree_api::Bytes;
+
+/// Whether an image takes what is new.
+#[derive(Drop)]
+pub struct Chooser {
+    oldest: bool,
+    draws: Draws,
+}
+
+impl Chooser {
+    pub fn new(choice: u64) -> Chooser {
+        Chooser {
+            oldest: choice == 1,
+            draws: Draws::new(choice),
+        }
+    }
+
+    /// Never, where the oldest is chosen, and drawn otherwise.
+    pub fn takes(&mut self) -> bool {
+        let drawn = self.draws.draw() % 2 == 1;
+        drawn && !self.oldest
+    }
+
+    fn byte(&mut self, old: u8, now: u8) -> u8
+        ensures { (result ≡ old) ⊎ (result ≡ now) }
+    {
+        if self.takes() { now } else { old }
+    }
+}
+
+impl Node {
+    /// What a change touched is as in this node or as in the one that has changed.
+    pub fn mix(
+        &mut self,
+        now: &Node,
+        change: &Change,
+        chooser: &mut Chooser,
+    ) -> Result<(), AllocError>
+        ensures { OnOk result (Mix (version self.old) (version now.now) (version self.new)) }
+    {
+        match change {
+            Change::Write { at, bytes } => {
+                let first = *at as usize;
+                let end = first.saturating_add(bytes.len());
+                mix_bytes(&mut self.bytes, &now.bytes, first, end, chooser)
+            }
+            Change::Cut { .. } => mix_bytes(&mut self.bytes, &now.bytes, 0, 0, chooser),
+            Change::Attr { name, .. } => self.mix_attr(now, name, chooser),
+        }
+    }
+
+    fn mix_attr(
+        &mut self,
+        now: &Node,
+        name: &Bytes,
+        chooser: &mut Chooser,
+    ) -> Result<(), AllocError>
+        ensures { OnOk result (Mix (version self.old) (version now.now) (version self.new)) }
+    {
+        if !chooser.takes() {
+            return Ok(());
+        }
+        match now.attrs.get(name) {
+            Some(value) => {
+                let value = Some(value.clone()?);
+                self.set_attr(name, &value)
+            }
+            None => self.set_attr(name, &None),
+        }
+    }
+}
+
+// The length, and each byte from one place to another.
+fn mix_bytes(
+    bytes: &mut Vec<u8>,
+    now: &[u8],
+    first: usize,
+    end: usize,
+    chooser: &mut Chooser,
+) -> Result<(), AllocError>
+    ensures len { OnOk result ((length bytes.new.items ≡ length bytes.old.items) ⊎ (length bytes.new.items ≡ length now.now)) }
+    ensures byte { OnOk result ((i : ℕ) → i < length bytes.new.items → (slice_index bytes.new.items i ≡ slice_index bytes.old.items i) ⊎ (slice_index bytes.new.items i ≡ slice_index now.now i)) }
+{
+    mix_len(bytes, now.len(), chooser)?;
+    let end = end.min(bytes.len()).min(now.len());
+    mix_slice(bytes, now, first, end, chooser);
+    Ok(())
+}
+
+fn mix_len(bytes: &mut Vec<u8>, len: usize, chooser: &mut Chooser) -> Result<(), AllocError>
+    ensures len { OnOk result ((length bytes.new.items ≡ length bytes.old.items) ⊎ (length bytes.new.items ≡ len)) }
+    ensures byte { OnOk result ((i : ℕ) → i < length bytes.new.items → slice_index bytes.new.items i ≡ slice_index bytes.old.items i) }
+{
+    if !chooser.takes() {
+        return Ok(());
+    }
+    lengthen(bytes, len)?;
+    bytes.truncate(len);
+    Ok(())
+}
+
+fn mix_slice(bytes: &mut [u8], now: &[u8], first: usize, end: usize, chooser: &mut Chooser)
+    requires in_bytes { end ≤ length bytes.old }
+    requires in_now { end ≤ length now.now }
+    ensures { (i : ℕ) → (slice_index bytes.new i ≡ slice_index bytes.old i) ⊎ (slice_index bytes.new i ≡ slice_index now.now i) }
+{
+    for i in first..end {
+        bytes[i] = chooser.byte(bytes[i], now[i]);
+    }
+}
