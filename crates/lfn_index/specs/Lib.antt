@@ -1,6 +1,3 @@
-<<<<<<< HEAD
-pub mod Fault
-=======
 pub mod Changes
 pub mod Directory
 pub mod Entries
@@ -9,4 +6,3 @@ pub mod FileName
 pub mod Listing
 pub mod Moving
 pub mod Subdirs
->>>>>>> 26433b0d2f5a9c0359172de3b1703a8e8b845d81

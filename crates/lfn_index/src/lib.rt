@@ -1,11 +1,3 @@
-<<<<<<< HEAD
-//! What calls on a directory's index answer where they give up.
-#![tactic(auto)]
-
-mod fault;
-
-pub use fault::IndexFault;
-=======
 //! The names of one directory's files.
 //!
 //! Each object of a directory is one file. Its name is the object's text, where that has at most 200 bytes. Else it is
@@ -31,4 +23,3 @@ pub use removal::unlink;
 
 #[cfg(test)]
 mod tests;
->>>>>>> 26433b0d2f5a9c0359172de3b1703a8e8b845d81
