@@ -1,10 +1,10 @@
 -- What the trait says of each call, by the history after it.
-use Rattle.std.proofs.Common.{◌≡◌, ◌≢◌, inl, inr, ℕ, ◌+◌, List, length, refl, sym, ◌∙◌, ap, subst, Option, Some, None, Result, Ok, Err, OnOk, map}
-use Rattle.tree_api.specs.Tree.{Path, Version, Names, Content, Tree, Mix, Named, Made, Wrote, Snapped, RolledBack, IsContent}
-use Rattle.tree_api.specs.Disk.{Disk, Steps, Stays, Still, NameChange, Creation, Change, Synced, SyncedNames, SyncedAll, SnapChange, Rollback}
+use Rattle.std.proofs.Common.{◌≡◌, ◌≢◌, inr, ℕ, refl, sym, ◌∙◌, subst, Option, Some, Result, Ok, Err}
+use Rattle.tree_api.specs.Tree.{Path, Version, Names, Content, Tree, Mix, Named, Made, Wrote, Snapped}
+use Rattle.tree_api.specs.Disk.{NameChange, Creation, Change, Synced, SyncedNames, SyncedAll, SnapChange}
 use Rattle.tree_api.specs.declared.tree.TreeError.{TreeError}
 use Rattle.tree_api.specs.declared.tree.TreeError.TheVariants.{Memory}
-use Rattle.tree_memory.specs.History.{History, IsImage, State, next, disk, put, renamed, wrote, made, synced, synced_names, synced_all, snapped, rolled}
+use Rattle.tree_memory.specs.History.{IsImage, State, next, disk, renamed, wrote, made, synced, synced_names, synced_all, snapped}
 use Rattle.tree_memory.specs.Images.{put_here, put_other, renamed_image, wrote_image, made_image, synced_image, synced_names_image, synced_all_image, snapped_image, snapped_now}
 use Rattle.tree_memory.specs.Sounds.{goes, steps}
 

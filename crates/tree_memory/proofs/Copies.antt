@@ -1,9 +1,9 @@
 -- Copies of all snapshots.
 use Rattle.std.proofs.Common.{◌≡◌, ℕ, List, [], ◌∷◌, ◌++◌, map, Bool, true, false, cond, Option, Some, None, refl, sym, ◌∙◌, ap, subst}
 use Rattle.std.specs.Option.{option_map}
-use Rattle.std.specs.Map.{update, update_all, lookup, keys_of}
+use Rattle.std.specs.Map.{update_all, keys_of}
 use Rattle.std.specs.BTreeMap.{BTreeMap, get, is_at}
-use Rattle.std.specs.Ordering.{nat_cmp, eq_by_cmp, is_eq}
+use Rattle.std.specs.Ordering.{nat_cmp, eq_by_cmp}
 use Rattle.std.specs.Cmp.{nat_cmp_total, eq_by_cmp_equiv}
 use Rattle.std.specs.List.{IsDistinct}
 use Rattle.std.specs.List.Sorted.{IsStrictlySortedBy}
@@ -13,9 +13,7 @@ use Rattle.std.proofs.lemmas.Map.Keys.{IsDistinct-from_sorted}
 use Rattle.std.proofs.lemmas.List.{map-append}
 use Rattle.tree_api.specs.Tree.{Content}
 use Rattle.tree_memory.specs.Kept.{content_of}
-use Rattle.tree_memory.specs.Snaps.{snaps_of}
 use Rattle.tree_memory.specs.declared.snap.Snap.{Snap}
-use Rattle.tree_memory.specs.declared.snaps.Snaps.{Snaps}
 
 abbrev pub content_in : Snap → Content
 content_in s = content_of s.kept.items

@@ -1,17 +1,16 @@
 -- What the trait says of each call, by what its event did.
-use Rattle.std.proofs.Common.{◌≡◌, ◌≢◌, ◌⊎◌, inl, inr, ⊎_elim, ℕ, zero, suc, ◌+◌, ◌-◌, ◌<◌, ◌≤◌, ◌^◌, ◌==◌, ◌&&◌, List, [], ◌∷◌, ◌++◌, length, take, map, Bool, true, false, cond, Option, Some, None, Result, Ok, Err, OnOk, OnErr, IfOk, refl, sym, ◌∙◌, ap, subst, append_assoc, arith, lit<, nat_lt, min}
+use Rattle.std.proofs.Common.{◌≡◌, ◌≢◌, inl, ℕ, suc, ◌+◌, ◌<◌, ◌^◌, List, [], ◌∷◌, ◌++◌, length, Bool, true, false, cond, Option, Some, None, Result, Ok, Err, OnOk, OnErr, IfOk, refl, sym, ◌∙◌, ap, subst, arith, lit<, nat_lt}
 use Rattle.std.specs.declared.alloc.AllocError.{AllocError}
-use Rattle.std.proofs.lemmas.Bool.{cases_eq, cases_lt, eq-eqb, lt-ltb, and_from}
+use Rattle.std.proofs.lemmas.Bool.{eq-eqb, lt-ltb, and_from}
 use Rattle.std.proofs.lemmas.Grind.{common_steps}
-use Rattle.tree_api.specs.Tree.{Path, Version, Names, Content, Tree, held, look, IsFile, IsDir, IsAbove, HasParent, IsEmptyDir, Gone, MovedFile, MovedDir, Written, AttrIs, Cut, written, zeros, current, content}
-use Rattle.tree_api.specs.Disk.{Disk, Stays, Still, NameChange, Creation, Change, Synced, SyncedNames, SyncedAll, SnapChange, Rollback}
+use Rattle.tree_api.specs.Tree.{Path, Version, Content, Tree, IsFile, IsDir, HasParent, IsEmptyDir, Gone, AttrIs, content}
+use Rattle.tree_api.specs.Disk.{Disk, Still, NameChange, Creation, Change, Synced, SyncedNames, SyncedAll, SnapChange}
 use Rattle.tree_api.specs.declared.tree.TreeError.{TreeError}
-use Rattle.tree_api.specs.declared.tree.TreeError.TheVariants.{Memory, Refused}
-use Rattle.tree_api.proofs.Images.{none_created, none_named, none_changed, none_synced, none_synced_names, none_snapped, none_rolled}
-use Rattle.tree_memory.specs.History.{History, Among, IsImage, State, next, disk, renamed, wrote, made, synced, synced_names, synced_all, snapped}
+use Rattle.tree_api.proofs.Images.{none_created, none_named, none_changed, none_synced, none_synced_names, none_snapped}
+use Rattle.tree_memory.specs.History.{History, IsImage, State, next, disk, renamed, wrote, made, synced, synced_names, synced_all, snapped}
 use Rattle.tree_memory.specs.Paths.{same_step}
-use Rattle.tree_memory.specs.Names.{names_at, put_at, gone_at, edited, unlinks, links, links_below, IsBelow}
-use Rattle.tree_memory.specs.Nodes.{fresh, written_in, cut_to, with_attr, changed, fits}
+use Rattle.tree_memory.specs.Names.{names_at, put_at, gone_at}
+use Rattle.tree_memory.specs.Nodes.{fresh, written_in, cut_to, with_attr, fits}
 use Rattle.tree_memory.specs.Log.{run, adds, suits, flush}
 use Rattle.tree_memory.specs.Valid.{dir_at, IsGood, IsWhole, IsValid}
 use Rattle.tree_memory.specs.Told.{tree_of}
@@ -19,14 +18,14 @@ use Rattle.tree_memory.specs.declared.store.Store.{Store}
 use Rattle.tree_memory.specs.Tells.{Follows, Did}
 use Rattle.tree_memory.specs.Events.{IsChange}
 use Rattle.tree_memory.specs.declared.event.Event.{Event}
-use Rattle.tree_memory.specs.declared.event.Event.TheVariants.{Make, Remove, Move, MoveAll, Change as Changed, SyncFile, SyncNames, Snapshot, DropSnapshot, Rollback as RolledEvent}
+use Rattle.tree_memory.specs.declared.event.Event.TheVariants.{Make, Remove, SyncFile, SyncNames, Snapshot, DropSnapshot}
 use Rattle.tree_memory.proofs.Edits.{put_here, put_other, gone_here, gone_other}
 use Rattle.tree_memory.proofs.Orders.{same_step_refl, same_step_is}
 use Rattle.tree_memory.specs.Sounds.{same_state}
 use Rattle.tree_memory.proofs.Calls.{renames, creates, changes, syncs_node, syncs_names, syncs_all, snaps}
-use Rattle.tree_memory.proofs.Goods.{good_gone, none_below_file, not_both, push_not_nil}
+use Rattle.tree_memory.proofs.Goods.{good_gone, none_below_file}
 use Rattle.tree_memory.specs.Images.{synced_all_image}
-use Rattle.tree_memory.proofs.Valids.{dirs, valid_renamed, valid_wrote, valid_made, valid_synced, valid_synced_names, valid_snapped, whole_content, valid_synced_all}
+use Rattle.tree_memory.proofs.Valids.{dirs, valid_renamed, valid_wrote, valid_made, valid_synced, valid_synced_names, valid_snapped, whole_content}
 
 abbrev pub Answer : Type 0
 Answer = Result (Unit {0}) TreeError

@@ -1,14 +1,13 @@
 -- What many changes of names leave.
-use Rattle.std.proofs.Common.{◌≡◌, ◌≢◌, ◌⊎◌, inl, inr, ℕ, zero, suc, ◌+◌, ◌<◌, ◌≤◌, List, [], ◌∷◌, ◌++◌, length, get_or, map, Bool, true, false, cond, ◌&&◌, Option, Some, None, refl, sym, ◌∙◌, ap, subst, append_assoc, arith}
+use Rattle.std.proofs.Common.{◌≡◌, ◌≢◌, ℕ, suc, ◌+◌, ◌<◌, ◌≤◌, List, [], ◌∷◌, ◌++◌, length, Bool, true, false, cond, Option, Some, None, refl, sym, ◌∙◌, ap, arith}
 use Rattle.std.specs.List.{All}
 use Rattle.std.specs.Ordering.{is_eq}
-use Rattle.std.proofs.lemmas.List.{append-nil}
 use Rattle.tree_api.specs.Tree.{Path, Names, MovedDir}
-use Rattle.tree_memory.specs.Paths.{path_cmp, same_path}
+use Rattle.tree_memory.specs.Paths.{same_path}
 use Rattle.tree_memory.specs.Names.{put_at, gone_at, edited, edited_once, find_name, unlinks, links, numbered, IsBelow}
 use Rattle.tree_memory.specs.declared.names.Name.{Name}
 use Rattle.tree_memory.specs.declared.event.Edit.{Edit}
-use Rattle.tree_memory.proofs.Orders.{same_path_is, same_path_from, same_path_not, same_path_flip, same_path_refl, cmp_append}
+use Rattle.tree_memory.proofs.Orders.{same_path_is, same_path_not, same_path_flip, same_path_refl, cmp_append}
 use Rattle.tree_memory.proofs.Lists.{all_head, all_tail}
 
 pub put_here : (p : Path) (n : ℕ) (at : Names) → put_at p n at p ≡ Some n

@@ -1,18 +1,16 @@
 -- An image, as data, after an event.
-use Rattle.std.proofs.Common.{◌≡◌, ◌≢◌, ◌⊎◌, inl, inr, ⊎_elim, ℕ, ◌+◌, ◌<◌, List, [], ◌∷◌, ◌++◌, length, get_or, set, map, Bool, Option, Some, None, Vec, refl, sym, ◌∙◌, ap, subst, arith}
+use Rattle.std.proofs.Common.{◌≡◌, ◌⊎◌, inl, inr, ⊎_elim, ℕ, ◌<◌, List, [], ◌∷◌, ◌++◌, set, map, Bool, Option, Vec, refl, sym, ◌∙◌, ap, subst}
 use Rattle.std.specs.declared.alloc.Global.{Global}
 use Rattle.tree_api.specs.Tree.{Path, Version, Names, Content, Tree, Mix}
-use Rattle.tree_memory.specs.History.{History, IsImage, put, renamed, wrote, made, synced, synced_names, snapped, rolled, fill}
-use Rattle.tree_memory.specs.Names.{names_at, put_at, edited}
+use Rattle.tree_memory.specs.History.{History, put, renamed, wrote, made, synced, synced_names, snapped, rolled, fill}
+use Rattle.tree_memory.specs.Names.{names_at, put_at}
 use Rattle.tree_memory.specs.Nodes.{version, node_of, fresh, changed}
-use Rattle.tree_memory.specs.Snaps.{snaps_of}
 use Rattle.tree_memory.specs.Told.{tree_of, count_of}
-use Rattle.tree_memory.specs.Leaves.{seen, settle, IsLeft}
-use Rattle.tree_memory.specs.Images.{put_here, put_other}
+use Rattle.tree_memory.specs.Leaves.{seen, IsLeft}
+use Rattle.tree_memory.specs.Images.{put_here}
 use Rattle.tree_memory.specs.declared.node.Node.{Node}
 use Rattle.tree_memory.specs.declared.node.Change.{Change}
 use Rattle.tree_memory.specs.declared.node.Change.TheVariants.{Write, Cut, Attr}
-use Rattle.tree_memory.specs.declared.event.Edit.{Edit}
 use Rattle.tree_memory.specs.declared.store.Store.{Store}
 use Rattle.tree_memory.proofs.Stores.{node_push, node_added, node_set}
 use Rattle.tree_memory.proofs.Lefts.{left_renamed, left_made, left_wrote, left_synced, left_synced_names, left_snapped, left_rolled}

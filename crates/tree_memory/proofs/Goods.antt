@@ -1,8 +1,7 @@
 -- Name maps stay good.
-use Rattle.std.proofs.Common.{◌≡◌, ◌≢◌, ◌⊎◌, inl, inr, ⊎_elim, ℕ, zero, suc, ◌+◌, ◌<◌, ◌≤◌, List, [], ◌∷◌, ◌++◌, length, Bool, true, false, Option, Some, None, refl, sym, ◌∙◌, ap, subst, append_assoc, arith, is_some}
-use Rattle.std.proofs.lemmas.List.{append-nil, length-append}
-use Rattle.std.proofs.lemmas.Bool.{cases_eq}
-use Rattle.tree_api.specs.Tree.{Path, Version, Names, Tree, IsFile, IsDir, IsAbove, HasParent, IsEmptyDir, Gone, MovedFile, MovedDir}
+use Rattle.std.proofs.Common.{◌≡◌, ◌≢◌, ◌⊎◌, inl, inr, ℕ, suc, ◌<◌, ◌≤◌, List, [], ◌∷◌, ◌++◌, Bool, true, false, Option, Some, None, refl, sym, ◌∙◌, ap, append_assoc, arith, is_some}
+use Rattle.std.proofs.lemmas.List.{append-nil}
+use Rattle.tree_api.specs.Tree.{Path, Names, Gone, MovedFile, MovedDir}
 use Rattle.tree_memory.specs.Paths.{strip}
 use Rattle.tree_memory.specs.Valid.{dir_at, IsGood}
 use Rattle.tree_memory.proofs.Orders.{cases_path, strip_some, strip_none}

@@ -1,6 +1,5 @@
 -- Copies of what snapshots keep.
-use Rattle.std.proofs.Common.{◌≡◌, ℕ, ◌<◌, List, [], ◌∷◌, length, get_or, map, Bool, cond, Option, Some, None, refl, sym, ◌∙◌, ap, subst, arith}
-use Rattle.std.proofs.lemmas.List.{get_or-map, length-map}
+use Rattle.std.proofs.Common.{◌≡◌, List, [], ◌∷◌, map, cond, Some, None, refl, sym, ◌∙◌, ap, subst}
 use Rattle.tree_api.specs.Tree.{Path, Version, Content}
 use Rattle.tree_memory.specs.Paths.{same_path}
 use Rattle.tree_memory.specs.Nodes.{version}

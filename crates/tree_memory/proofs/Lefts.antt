@@ -1,14 +1,13 @@
 -- An image after an event.
-use Rattle.std.proofs.Common.{◌≡◌, ◌≢◌, ◌⊎◌, inl, inr, ⊎_elim, ℕ, suc, ◌+◌, ◌<◌, ◌≤◌, List, [], ◌∷◌, ◌++◌, length, map, Bool, true, false, cond, Option, Some, refl, sym, ◌∙◌, ap, subst, arith}
+use Rattle.std.proofs.Common.{◌≡◌, ◌⊎◌, inl, inr, ⊎_elim, ℕ, suc, List, [], ◌∷◌, Bool, true, false, cond, Option, refl, sym, ◌∙◌, ap, subst}
 use Rattle.std.proofs.lemmas.Bool.{cases_eq}
-use Rattle.tree_api.specs.Tree.{Path, Version, Names, Content, Tree, Mix, content}
+use Rattle.tree_api.specs.Tree.{Version, Names, Content, Tree, Mix}
 use Rattle.tree_memory.specs.History.{History, Among, IsMix, IsImage, put, renamed, wrote, made, synced, synced_names, synced_all, snapped, rolled, fill, unchanged}
 use Rattle.tree_memory.specs.Paths.{same_step}
 use Rattle.tree_memory.proofs.Orders.{same_step_is}
-use Rattle.tree_memory.specs.Names.{names_at}
-use Rattle.tree_memory.specs.Nodes.{version, node_of, with_attr}
-use Rattle.tree_memory.specs.Told.{tree_of, count_of}
-use Rattle.tree_memory.specs.Leaves.{seen, settle, IsLeft}
+use Rattle.tree_memory.specs.Nodes.{with_attr}
+use Rattle.tree_memory.specs.Told.{tree_of}
+use Rattle.tree_memory.specs.Leaves.{settle, IsLeft}
 use Rattle.tree_memory.specs.Mixes.{mix_first}
 use Rattle.tree_memory.specs.Images.{put_here, put_other, self_mix, now_image}
 use Rattle.tree_memory.specs.declared.store.Store.{Store}

@@ -1,5 +1,5 @@
 -- The entries of a directory.
-use Rattle.std.proofs.Common.{◌≡◌, ◌≢◌, ◌↔◌, inl, inr, ℕ, zero, suc, ◌+◌, ◌<◌, ◌==◌, List, [], ◌∷◌, ◌++◌, length, take, get_or, map, Bool, true, false, cond, Option, Some, None, refl, sym, ◌∙◌, ap, subst, arith}
+use Rattle.std.proofs.Common.{◌≡◌, ℕ, suc, ◌+◌, ◌<◌, List, [], ◌∷◌, ◌++◌, length, take, get_or, map, true, false, cond, Option, Some, None, refl, sym, ◌∙◌, ap, subst, arith}
 use Rattle.std.specs.List.{All, AllByRecursion, Contains}
 use Rattle.std.specs.List.Sorted.{IsStrictlySortedBy}
 use Rattle.std.specs.declared.cmp.Ordering.{Ordering}
@@ -8,10 +8,9 @@ use Rattle.std.specs.Ordering.{nat_cmp, ordering_then}
 use Rattle.std.specs.Cmp.Lexicographic.{slice_cmp}
 use Rattle.std.proofs.lemmas.List.{take_more, append-nil}
 use Rattle.std.proofs.lemmas.List.Elements.{All-contains}
-use Rattle.tree_api.specs.Tree.{Path, Version, Names, Tree}
-use Rattle.tree_api.specs.Answer.{kind_of, HaveSteps, RisingSteps, IsListing}
+use Rattle.tree_api.specs.Tree.{Path, Version, Tree}
+use Rattle.tree_api.specs.Answer.{kind_of, HaveSteps, IsListing}
 use Rattle.tree_api.specs.declared.tree.Entry.{Entry}
-use Rattle.tree_api.specs.declared.tree.Kind.{Kind}
 use Rattle.tree_memory.specs.Paths.{path_cmp, same_path}
 use Rattle.tree_memory.specs.Names.{find_name, IsBelow}
 use Rattle.tree_memory.specs.declared.names.Name.{Name}

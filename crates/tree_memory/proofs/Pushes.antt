@@ -1,11 +1,10 @@
 -- One more call in the log.
-use Rattle.std.proofs.Common.{◌≡◌, inl, inr, ℕ, zero, suc, ◌+◌, ◌<◌, ◌&&◌, List, [], ◌∷◌, ◌++◌, length, take, get_or, ◌-◌, length-append, Bool, true, false, Some, refl, sym, ◌∙◌, ap, subst, arith}
+use Rattle.std.proofs.Common.{◌≡◌, inl, inr, ℕ, zero, suc, ◌+◌, List, [], ◌∷◌, ◌++◌, length, take, get_or, ◌-◌, length-append, Bool, true, false, refl, sym, ◌∙◌, ap, subst, arith}
 use Rattle.std.proofs.lemmas.Bool.{and_parts, and_from, cases_lt}
 use Rattle.std.proofs.lemmas.List.{get_or_push, take_all, take-append-le}
-use Rattle.tree_api.specs.Tree.{Path, Names, Tree}
+use Rattle.tree_api.specs.Tree.{Tree}
 use Rattle.tree_memory.specs.History.{History, State, next, settled}
-use Rattle.tree_memory.specs.Names.{names_at}
-use Rattle.tree_memory.specs.Log.{run, ran, flush, step, replay, start, adds, suits, all_suit, nodes_after}
+use Rattle.tree_memory.specs.Log.{run, ran, step, replay, start, adds, suits, all_suit, nodes_after}
 use Rattle.tree_memory.specs.Valid.{IsValid}
 use Rattle.tree_memory.specs.Told.{tree_of, count_of, state, IsLow, IsTied}
 use Rattle.tree_memory.proofs.Valids.{valid_synced_all}

@@ -1,5 +1,5 @@
 -- What the readings answer of a tree.
-use Rattle.std.proofs.Common.{◌≡◌, ℕ, ◌<◌, ◌≤◌, ◌-◌, ◌++◌, List, length, take, drop, slice_index_or, min, Option, Some, None, Vec, refl, sym, ap, subst, ◌∙◌}
+use Rattle.std.proofs.Common.{◌≡◌, ℕ, ◌<◌, ◌-◌, ◌++◌, List, length, take, drop, slice_index_or, min, Option, Some, Vec, sym, ap, subst, ◌∙◌}
 use Rattle.std.specs.declared.alloc.Global.{Global}
 use Rattle.tree_api.specs.Tree.{Path, Version, Tree, held, look}
 use Rattle.tree_api.specs.Disk.{ReadAt}

@@ -1,32 +1,30 @@
 -- What the trait says of a rename.
-use Rattle.std.proofs.Common.{◌≡◌, ◌≢◌, ◌⊎◌, inl, inr, ⊎_elim, ℕ, suc, ◌+◌, ◌<◌, ◌&&◌, List, [], ◌∷◌, ◌++◌, length, Bool, true, false, Option, Some, None, Result, Ok, Err, OnOk, IfOk, refl, sym, ◌∙◌, ap, subst, append_assoc, arith, nat_lt}
+use Rattle.std.proofs.Common.{◌≡◌, ◌≢◌, ◌⊎◌, inl, inr, ℕ, ◌+◌, ◌<◌, List, [], ◌∷◌, ◌++◌, Bool, true, false, Option, Some, None, Result, IfOk, refl, sym, ◌∙◌, ap, subst, arith, nat_lt}
 use Rattle.std.specs.List.{All}
 use Rattle.std.specs.declared.alloc.AllocError.{AllocError}
 use Rattle.std.proofs.lemmas.Bool.{lt-ltb, and_from}
 use Rattle.std.proofs.lemmas.List.{append-nil}
-use Rattle.tree_api.specs.Tree.{Path, Version, Names, Tree, IsFile, IsDir, IsAbove, HasParent, MovedFile, MovedDir}
-use Rattle.tree_api.specs.Disk.{Disk, Still, NameChange}
-use Rattle.tree_api.specs.declared.tree.TreeError.{TreeError}
+use Rattle.tree_api.specs.Tree.{Path, Names, Tree, IsFile, IsDir, IsAbove, HasParent, MovedFile, MovedDir}
+use Rattle.tree_api.specs.Disk.{NameChange}
 use Rattle.tree_api.proofs.Images.{none_named}
-use Rattle.tree_memory.specs.History.{History, IsImage, State, next, disk, renamed}
+use Rattle.tree_memory.specs.History.{History, State, disk, renamed}
 use Rattle.tree_memory.specs.Paths.{strip}
-use Rattle.tree_memory.specs.Names.{put_at, gone_at, edited, unlinks, links, links_below, IsBelow}
+use Rattle.tree_memory.specs.Names.{put_at, gone_at, edited, unlinks, links, links_below}
 use Rattle.tree_memory.specs.Log.{run, adds, suits}
-use Rattle.tree_memory.specs.Valid.{dir_at, IsGood, IsValid}
+use Rattle.tree_memory.specs.Valid.{IsGood, IsValid}
 use Rattle.tree_memory.specs.Told.{tree_of}
 use Rattle.tree_memory.specs.declared.store.Store.{Store}
-use Rattle.tree_memory.specs.Tells.{Follows, Did}
-use Rattle.tree_memory.specs.Events.{IsMove, IsStay, IsMoveAll, IsMoving}
+use Rattle.tree_memory.specs.Tells.{Did}
+use Rattle.tree_memory.specs.Events.{IsMoving}
 use Rattle.tree_memory.specs.declared.names.Name.{Name}
 use Rattle.tree_memory.specs.declared.event.Edit.{Edit}
 use Rattle.tree_memory.specs.declared.event.Event.{Event}
-use Rattle.tree_memory.specs.declared.event.Event.TheVariants.{Move, MoveAll}
 use Rattle.tree_memory.proofs.Edits.{put_here, put_other, gone_here, gone_other, moved_dir}
-use Rattle.tree_memory.proofs.Orders.{cases_path, strip_append, strip_some, strip_none}
+use Rattle.tree_memory.proofs.Orders.{cases_path, strip_append, strip_some}
 use Rattle.tree_memory.proofs.Lists.{all_head, all_tail}
 use Rattle.tree_memory.specs.Sounds.{same_state}
 use Rattle.tree_memory.proofs.Calls.{renames}
-use Rattle.tree_memory.proofs.Goods.{good_file, good_dir, none_below, fronts, cases_below, not_both, same_some, push_not_nil}
+use Rattle.tree_memory.proofs.Goods.{good_file, good_dir, none_below, fronts, cases_below, not_both, same_some}
 use Rattle.tree_memory.proofs.Valids.{dirs, valid_renamed}
 use Rattle.tree_memory.proofs.Dones.{Answer, by_did, if_ok, dir_of}
 

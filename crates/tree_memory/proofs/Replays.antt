@@ -1,16 +1,13 @@
 -- An image that is followed through the log.
-use Rattle.std.proofs.Common.{◌≡◌, inl, ℕ, ◌+◌, ◌<◌, ◌&&◌, List, [], ◌∷◌, ◌++◌, length, take, drop, get_or, Bool, true, false, Option, Some, refl, sym, ◌∙◌, ap, subst, arith}
+use Rattle.std.proofs.Common.{◌≡◌, inl, ℕ, ◌+◌, ◌<◌, List, [], ◌∷◌, ◌++◌, length, take, drop, get_or, Bool, true, false, Option, refl, sym, ◌∙◌, ap, subst, arith}
 use Rattle.std.proofs.lemmas.Bool.{and_parts}
 use Rattle.std.proofs.lemmas.List.{take_more, drop_more, take_all}
-use Rattle.tree_api.specs.Tree.{Path, Content, Tree}
+use Rattle.tree_api.specs.Tree.{Content, Tree}
 use Rattle.tree_memory.specs.History.{History, State, IsImage, settled}
-use Rattle.tree_memory.specs.Names.{names_at}
-use Rattle.tree_memory.specs.Log.{run, ran, flush, step, replay, start, adds, suits, all_suit, nodes_after}
-use Rattle.tree_memory.specs.Valid.{IsValid}
+use Rattle.tree_memory.specs.Log.{run, ran, flush, replay, start, adds, suits, all_suit, nodes_after}
 use Rattle.tree_memory.specs.Told.{tree_of, count_of, state, IsLow, IsTied}
 use Rattle.tree_memory.specs.Leaves.{settle, IsLeft}
 use Rattle.tree_memory.specs.Images.{now_image}
-use Rattle.tree_memory.specs.declared.event.Event.{Event}
 use Rattle.tree_memory.specs.declared.event.Call.{Call}
 use Rattle.tree_memory.specs.declared.store.Store.{Store}
 use Rattle.tree_memory.proofs.Pushes.{ran_run, replay_push, after_push}

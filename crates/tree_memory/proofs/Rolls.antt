@@ -1,12 +1,11 @@
 -- What the trait says of a rollback.
-use Rattle.std.proofs.Common.{◌≡◌, ◌≢◌, ◌⊎◌, inl, inr, ⊎_elim, ℕ, zero, suc, ◌+◌, ◌<◌, ◌≤◌, ◌^◌, ◌==◌, ◌&&◌, List, [], ◌∷◌, ◌++◌, length, get_or, map, Bool, true, false, cond, Option, Some, None, Result, Ok, Err, OnOk, OnErr, IfOk, refl, sym, ◌∙◌, ap, subst, append_assoc, arith, nat_lt}
+use Rattle.std.proofs.Common.{◌≡◌, ◌≢◌, ◌⊎◌, inl, inr, ℕ, zero, suc, ◌+◌, ◌<◌, ◌≤◌, ◌^◌, ◌==◌, List, [], ◌∷◌, ◌++◌, length, get_or, map, Bool, true, false, cond, Option, Some, None, Result, Ok, Err, OnOk, OnErr, IfOk, refl, sym, ◌∙◌, ap, subst, append_assoc, arith, nat_lt}
 use Rattle.std.specs.List.{All}
 use Rattle.std.specs.declared.alloc.AllocError.{AllocError}
-use Rattle.std.proofs.lemmas.Bool.{cases_eq, cases_lt, eq-eqb, lt-ltb, and_from, ltb-true, ltb-false}
-use Rattle.std.proofs.lemmas.List.{length-map, append-nil}
-use Rattle.tree_api.specs.Tree.{Path, Version, Names, Content, Tree, held, look, current, content, IsContent, RolledBack}
-use Rattle.tree_api.specs.Disk.{Disk, Still, Rollback}
-use Rattle.tree_api.specs.declared.tree.TreeError.{TreeError}
+use Rattle.std.proofs.lemmas.Bool.{cases_eq, cases_lt, eq-eqb, lt-ltb, and_from, ltb-true}
+use Rattle.std.proofs.lemmas.List.{length-map}
+use Rattle.tree_api.specs.Tree.{Path, Version, Names, Content, Tree, held, look, current, IsContent, RolledBack}
+use Rattle.tree_api.specs.Disk.{Rollback}
 use Rattle.tree_api.specs.declared.tree.TreeError.TheVariants.{Memory}
 use Rattle.tree_api.proofs.Images.{none_rolled}
 use Rattle.tree_memory.specs.History.{History, Among, IsMix, IsImage, State, next, disk, put, rolled, fill, unchanged}
@@ -16,7 +15,7 @@ use Rattle.tree_memory.specs.Nodes.{version}
 use Rattle.tree_memory.specs.Kept.{content_of, rests_of, IsEach}
 use Rattle.tree_memory.specs.Valid.{dir_at, kept_dir, IsGood, IsWhole, IsValid}
 use Rattle.tree_memory.specs.Mixes.{one_mix}
-use Rattle.tree_memory.specs.Images.{put_here, put_other, self_mix, now_image}
+use Rattle.tree_memory.specs.Images.{put_here, put_other, self_mix}
 use Rattle.tree_memory.specs.Sounds.{steps, same_state}
 use Rattle.tree_memory.specs.declared.names.Name.{Name}
 use Rattle.tree_memory.specs.declared.snap.Kept.{Kept}
@@ -28,8 +27,8 @@ use Rattle.tree_memory.specs.declared.event.Edit.{Edit}
 use Rattle.tree_memory.specs.declared.event.Event.{Event}
 use Rattle.tree_memory.specs.declared.store.Store.{Store}
 use Rattle.tree_memory.proofs.Dones.{Answer, if_ok}
-use Rattle.tree_memory.proofs.Edits.{edited_append, links_off, links_at, unlinks_off, unlinked, chosen, chosen_self, find_low, find_single}
-use Rattle.tree_memory.proofs.Goods.{cases_below, last, push_same, same_some, not_both, front_same}
+use Rattle.tree_memory.proofs.Edits.{edited_append, links_off, links_at, unlinks_off, unlinked, chosen_self, find_low, find_single}
+use Rattle.tree_memory.proofs.Goods.{cases_below, last, push_same}
 use Rattle.tree_memory.proofs.Lists.{all_cons, all_nil}
 use Rattle.tree_memory.proofs.Stores.{find_shift}
 use Rattle.tree_memory.proofs.Valids.{dirs, held_dir}

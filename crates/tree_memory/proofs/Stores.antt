@@ -1,13 +1,12 @@
 -- Trees as data.
-use Rattle.std.proofs.Common.{Result, Ok, Err, OnOk, OnErr, is_err, ◌≡◌, ◌≢◌, ◌⊎◌, inl, inr, ℕ, zero, suc, ◌+◌, ◌<◌, ◌≤◌, List, [], ◌∷◌, ◌++◌, length, take, get_or, set, map, Bool, true, false, cond, Option, Some, None, refl, sym, ◌∙◌, ap, subst, append_assoc, arith}
+use Rattle.std.proofs.Common.{Result, Ok, Err, OnOk, OnErr, is_err, ◌≡◌, inl, inr, ℕ, zero, suc, ◌+◌, ◌<◌, List, [], ◌∷◌, ◌++◌, length, take, get_or, set, map, Bool, true, false, cond, Option, Some, refl, sym, ◌∙◌, ap, subst, append_assoc, arith}
 use Rattle.std.specs.List.{AllByRecursion}
-use Rattle.std.specs.declared.cmp.Ordering.{Ordering}
 use Rattle.std.specs.declared.cmp.Ordering.TheVariants.{Less}
 use Rattle.std.specs.List.Sorted.{IsStrictlySortedBy}
 use Rattle.std.specs.Ordering.{is_eq}
 use Rattle.std.proofs.lemmas.Bool.{cases_eq, cases_lt}
-use Rattle.std.proofs.lemmas.List.{append-nil, length-append, length-map, get_or-map, get_or-set_same, get_or-set_other, get_or_append_left, get_or_push, get_or_past, map-append, take_more}
-use Rattle.tree_api.specs.Tree.{Path, Version, Names, Content, Tree, new_dir, held, current, content}
+use Rattle.std.proofs.lemmas.List.{append-nil, length-append, length-map, get_or-map, get_or_append_left, get_or_push, get_or_past, map-append, take_more}
+use Rattle.tree_api.specs.Tree.{Path, Version, Names, Tree, new_dir, held, current, content}
 use Rattle.tree_memory.specs.Paths.{path_cmp, same_path}
 use Rattle.tree_memory.specs.History.{put, fill}
 use Rattle.tree_memory.specs.Names.{find_name, links, unlinks, numbered, IsBelow}
@@ -15,11 +14,10 @@ use Rattle.tree_memory.specs.Nodes.{version, node_of}
 use Rattle.tree_memory.specs.Kept.{content_of, rests_of, IsEach, pair}
 use Rattle.tree_memory.specs.declared.node.Node.{Node}
 use Rattle.tree_memory.specs.declared.names.Name.{Name}
-use Rattle.tree_memory.specs.declared.event.Edit.{Edit}
 use Rattle.tree_memory.specs.declared.event.Edit.TheVariants.{Link, Unlink}
 use Rattle.tree_memory.specs.declared.snap.Kept.{Kept}
 use Rattle.tree_memory.specs.Images.{put_here, put_other}
-use Rattle.tree_memory.proofs.Orders.{same_path_refl, same_path_not, same_path_flip}
+use Rattle.tree_memory.proofs.Orders.{same_path_refl, same_path_flip}
 use Rattle.tree_memory.proofs.Keeps.{paired, content_paired}
 
 -- ---- nodes by their numbers

@@ -1,5 +1,5 @@
 -- Loops over the steps of paths.
-use Rattle.std.proofs.Common.{◌≡◌, ◌≢◌, ℕ, zero, suc, ◌+◌, ◌<◌, ◌≤◌, List, [], ◌∷◌, ◌++◌, length, take, drop, Bool, true, false, cond, Option, Some, None, refl, sym, ◌∙◌, ap, subst, arith, is_some}
+use Rattle.std.proofs.Common.{◌≡◌, ℕ, ◌+◌, ◌<◌, List, [], ◌∷◌, length, drop, Bool, true, false, cond, Option, Some, None, refl, sym, ◌∙◌, ap, arith, is_some}
 use Rattle.std.specs.List.{slice_get}
 use Rattle.tree_api.specs.Tree.{Path}
 use Rattle.tree_memory.specs.Paths.{same_step, strip}

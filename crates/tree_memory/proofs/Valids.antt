@@ -1,8 +1,8 @@
 -- Histories stay valid.
-use Rattle.std.proofs.Common.{◌≡◌, ◌≢◌, ◌⊎◌, inl, inr, ⊎_elim, ℕ, zero, suc, ◌+◌, ◌<◌, ◌≤◌, ◌^◌, List, [], ◌∷◌, ◌++◌, length, Bool, true, false, Option, Some, None, refl, sym, ◌∙◌, ap, subst, append_assoc, arith, is_some, lit<}
+use Rattle.std.proofs.Common.{◌≡◌, ◌≢◌, inl, inr, ℕ, suc, ◌<◌, ◌^◌, List, [], ◌∷◌, ◌++◌, length, Bool, true, Option, Some, None, refl, sym, ◌∙◌, ap, subst, append_assoc, arith, lit<}
 use Rattle.std.proofs.lemmas.Bool.{cases_eq}
-use Rattle.tree_api.specs.Tree.{Path, Version, Names, Content, Tree, held, look, current, content, HasParent}
-use Rattle.tree_memory.specs.History.{History, Among, IsMix, IsImage, put, settled, renamed, wrote, made, synced, synced_names, synced_all, snapped, rolled, fill, unchanged}
+use Rattle.tree_api.specs.Tree.{Path, Version, Names, Content, Tree, held, current, content}
+use Rattle.tree_memory.specs.History.{History, Among, IsImage, put, settled, renamed, wrote, made, synced, synced_names, synced_all, snapped}
 use Rattle.tree_memory.specs.Valid.{dir_at, kept_dir, IsGood, IsWhole, IsValid}
 use Rattle.tree_memory.specs.Images.{put_here, put_other}
 use Rattle.tree_memory.proofs.Goods.{good_wider, good_put}

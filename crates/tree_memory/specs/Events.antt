@@ -1,5 +1,5 @@
 -- What the events of calls are.
-use Rattle.std.specs.Prelude.{◌≡◌, ◌≢◌, ◌⊎◌, ℕ, List, [], ◌++◌, Bool, true, false, Some, map, Vec}
+use Rattle.std.specs.Prelude.{◌≡◌, ◌≢◌, ◌⊎◌, ℕ, List, [], ◌++◌, true, false, Some, map, Vec}
 use Rattle.std.specs.declared.alloc.Global.{Global}
 use Rattle.tree_memory.specs.declared.event.Edit.{Edit}
 use Rattle.tree_memory.specs.declared.node.Node.{Node}

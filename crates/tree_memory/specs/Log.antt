@@ -1,5 +1,5 @@
 -- What a list of calls has made of a tree.
-use Rattle.std.specs.Prelude.{◌≡◌, ◌==◌, ◌&&◌, ℕ, suc, ◌+◌, List, [], ◌∷◌, map, length, Bool, true, false, Some, None, nat_lt}
+use Rattle.std.specs.Prelude.{◌==◌, ◌&&◌, ℕ, ◌+◌, List, [], ◌∷◌, map, length, Bool, true, false, Some, None, nat_lt}
 use Rattle.tree_api.specs.Tree.{Tree, content}
 use Rattle.tree_memory.specs.History.{History, State, next, settled, renamed, wrote, made, synced, synced_names, synced_all, snapped, rolled}
 use Rattle.tree_memory.specs.Names.{put_at, gone_at, edited, links_below}

@@ -1,8 +1,8 @@
 -- The laws of the trait, and how a history goes on.
-use Rattle.std.proofs.Common.{◌≡◌, ◌≢◌, ◌⊎◌, inl, inr, ⊎_elim, ℕ, zero, suc, ◌<◌, ◌≤◌, ◌^◌, List, [], ◌∷◌, ◌++◌, length, drop, Bool, true, refl, sym, ◌∙◌, ap, subst, Option, Some, None, arith, length-append}
-use Rattle.tree_api.specs.Tree.{Path, Version, Names, Tree, IsDir}
-use Rattle.tree_api.specs.Disk.{Disk, Sound, Elapses, Steps, Stays, Still}
-use Rattle.tree_memory.specs.History.{History, Among, IsMix, IsImage, HadImage, State, next, disk}
+use Rattle.std.proofs.Common.{◌≡◌, ◌⊎◌, inl, inr, ⊎_elim, ℕ, zero, suc, ◌<◌, ◌≤◌, ◌^◌, List, [], ◌∷◌, ◌++◌, length, drop, Bool, true, refl, sym, ◌∙◌, subst, Option, Some, None, arith, length-append}
+use Rattle.tree_api.specs.Tree.{Tree}
+use Rattle.tree_api.specs.Disk.{Sound, Elapses, Steps, Still}
+use Rattle.tree_memory.specs.History.{History, IsImage, HadImage, State, next, disk}
 use Rattle.tree_memory.specs.Valid.{dir_at, IsGood, IsValid}
 use Rattle.tree_memory.specs.Images.{now_image, mixes_image}
 

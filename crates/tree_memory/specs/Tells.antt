@@ -1,10 +1,8 @@
 -- What a tree in memory tells.
-use Rattle.std.specs.Prelude.{◌≡◌, ◌↔◌, ℕ, Contains, Result, Ok, Err, OnOk, OnErr, IsErr, IsErrOf}
+use Rattle.std.specs.Prelude.{◌≡◌, ◌↔◌, Contains, Result, Ok, Err, OnOk, OnErr}
 use Rattle.fault_count.specs.Counted.{one_more}
 use Rattle.fault_count.specs.Plan.{Plan}
 use Rattle.tree_api.specs.Disk.{Disk}
-use Rattle.tree_api.specs.declared.tree.TreeError.{TreeError}
-use Rattle.tree_api.specs.declared.tree.TreeError.TheVariants.{Refused}
 use Rattle.tree_memory.specs.History.{History, State, next, disk}
 use Rattle.std.specs.declared.alloc.AllocError.{AllocError}
 use Rattle.tree_memory.specs.Log.{run}

@@ -1,9 +1,7 @@
 -- What a tree in memory tells.
 use Rattle.std.specs.Prelude.{◌≡◌, ◌<◌, ℕ, List, [], ◌∷◌, length, take, Bool, true, Some, None}
-use Rattle.fault_count.specs.Plan.{Plan}
 use Rattle.tree_api.specs.Tree.{Path, Names, Tree, new_dir}
-use Rattle.tree_api.specs.Disk.{Disk}
-use Rattle.tree_memory.specs.History.{History, State, disk}
+use Rattle.tree_memory.specs.History.{State}
 use Rattle.tree_memory.specs.Names.{names_at}
 use Rattle.tree_memory.specs.Nodes.{node_of}
 use Rattle.tree_memory.specs.Snaps.{snaps_of}

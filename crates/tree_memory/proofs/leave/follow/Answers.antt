@@ -1,12 +1,11 @@
-use Rattle.std.proofs.Common.{◌≡◌, ◌<◌, ◌+◌, ◌==◌, ◌&&◌, ◌++◌, ℕ, List, length, map, nat_lt, true, sym, ap, subst, ◌∙◌, arith}
+use Rattle.std.proofs.Common.{◌≡◌, ◌<◌, ◌+◌, ◌==◌, ◌++◌, ℕ, List, length, map, sym, ap, subst, ◌∙◌, arith}
 use Rattle.std.proofs.lemmas.Result.{on_ok_weaker}
 use Rattle.std.proofs.lemmas.Bool.{eqb-true, ltb-true, and_parts}
 use Rattle.std.proofs.lemmas.List.{length-map}
-use Rattle.tree_memory.specs.History.{History}
 use Rattle.tree_memory.specs.Names.{edited, links_below}
-use Rattle.tree_memory.specs.Nodes.{version, node_of}
+use Rattle.tree_memory.specs.Nodes.{version}
 use Rattle.tree_memory.specs.Log.{run, adds, suits}
-use Rattle.tree_memory.specs.Told.{tree_of, count_of}
+use Rattle.tree_memory.specs.Told.{count_of}
 use Rattle.tree_memory.specs.Leaves.{IsLeft}
 use Rattle.tree_memory.specs.declared.event.Event.{Event}
 use Rattle.tree_memory.specs.declared.node.Node.{Node}

@@ -1,4 +1,4 @@
-use Rattle.std.proofs.Common.{◌≡◌, ◌<◌, subst}
+use Rattle.std.proofs.Common.{◌<◌, subst}
 use Rattle.std.proofs.lemmas.Result.{on_ok_weaker}
 use Rattle.tree_api.specs.Tree.{Version, Mix}
 use Rattle.tree_memory.specs.Nodes.{version, node_of}

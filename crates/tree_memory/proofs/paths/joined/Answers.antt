@@ -1,4 +1,4 @@
-use Rattle.std.proofs.Common.{◌≡◌, ◌++◌, [], ◌∷◌, take, sym, ap, ◌∙◌, append_assoc}
+use Rattle.std.proofs.Common.{◌++◌, [], ◌∷◌, take, sym, ap, ◌∙◌, append_assoc}
 use Rattle.tree_memory.proofs.Lists.{take_get}
 use Rattle.tree_memory.proofs.paths.joined.Goals as goal
 

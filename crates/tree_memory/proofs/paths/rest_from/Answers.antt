@@ -1,4 +1,4 @@
-use Rattle.std.proofs.Common.{◌≡◌, ◌≤◌, ◌++◌, [], ◌∷◌, length, take, drop, sym, ap, ◌∙◌, arith}
+use Rattle.std.proofs.Common.{◌≤◌, ◌++◌, [], ◌∷◌, length, take, drop, sym, ap, ◌∙◌, arith}
 use Rattle.tree_memory.proofs.Lists.{take_get, drop_push, length_take_below}
 use Rattle.tree_memory.proofs.paths.rest_from.Goals as goal
 

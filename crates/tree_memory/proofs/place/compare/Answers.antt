@@ -1,4 +1,4 @@
-use Rattle.std.proofs.Common.{◌≡◌, ◌⊎◌, ◌+◌, ◌≤◌, inl, inr, Bool, true, false, not, drop, length, sym, ap, ◌∙◌, arith}
+use Rattle.std.proofs.Common.{◌≡◌, ◌⊎◌, ◌+◌, ◌≤◌, inl, inr, true, false, drop, length, sym, ap, ◌∙◌, arith}
 use Rattle.std.specs.Ordering.{is_eq, ordering_then}
 use Rattle.tree_memory.specs.Paths.{path_cmp}
 use Rattle.tree_memory.proofs.Orders.{both_longer, then_equal, then_not, by_length}

@@ -1,4 +1,4 @@
-use Rattle.std.proofs.Common.{◌≡◌, ◌<◌, ◌+◌, List, length, get_or, sym, ap, subst, ◌∙◌, arith}
+use Rattle.std.proofs.Common.{◌≡◌, ◌<◌, List, length, get_or, ap, ◌∙◌, arith}
 use Rattle.tree_memory.specs.declared.event.Call.{Call}
 use Rattle.tree_memory.specs.Leaves.{settle}
 use Rattle.tree_memory.proofs.Replays.{at_call, followed_first, followed_low, followed_ran, followed_more, followed_left}

@@ -1,5 +1,3 @@
-use Rattle.std.proofs.Common.{take, drop}
-use Rattle.tree_memory.specs.Told.{tree_of, count_of}
 use Rattle.tree_memory.proofs.Replays.{IsFollowed}
 use Rattle.tree_memory.proofs.memory.MemoryTree.image.Given as goal
 

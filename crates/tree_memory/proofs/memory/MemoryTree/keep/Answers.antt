@@ -1,8 +1,6 @@
-use Rattle.std.proofs.Common.{◌≡◌, ◌+◌, ◌-◌, ◌++◌, [], ◌∷◌, ℕ, List, true, false, length, get_or, take, refl, sym, ap, subst, ◌∙◌}
-use Rattle.tree_memory.specs.History.{State}
-use Rattle.tree_memory.specs.Log.{run, ran, adds, suits}
-use Rattle.tree_memory.specs.Told.{tree_of, count_of, state}
-use Rattle.tree_memory.specs.Tells.{Follows}
+use Rattle.std.proofs.Common.{◌≡◌, ◌+◌, sym, ap, ◌∙◌}
+use Rattle.tree_memory.specs.Log.{ran, adds}
+use Rattle.tree_memory.specs.Told.{tree_of, count_of}
 use Rattle.tree_memory.specs.declared.event.Call.{Call}
 use Rattle.tree_memory.specs.declared.event.Event.{Event}
 use Rattle.tree_memory.proofs.Pushes.{tied_low, tied_kept, tied_same, state_push, last_call, popped, pushed_at}

@@ -1,4 +1,4 @@
-use Rattle.std.proofs.Common.{◌≡◌, ℕ, sym, subst}
+use Rattle.std.proofs.Common.{ℕ, sym, subst}
 use Rattle.tree_memory.specs.History.{settled}
 use Rattle.tree_memory.specs.Valid.{IsValid}
 use Rattle.tree_memory.specs.Told.{tree_of, count_of}

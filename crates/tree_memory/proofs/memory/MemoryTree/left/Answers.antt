@@ -1,6 +1,5 @@
 use Rattle.std.proofs.Common.{◌≡◌, sym, subst, ◌∙◌}
 use Rattle.std.proofs.lemmas.Result.{IfOk-weaker}
-use Rattle.tree_api.specs.Tree.{Tree}
 use Rattle.tree_memory.specs.History.{IsImage}
 use Rattle.tree_memory.specs.Told.{tree_of}
 use Rattle.tree_memory.specs.Tells.{history_of}

@@ -1,8 +1,8 @@
-use Rattle.std.proofs.Common.{◌≡◌, ℕ, Some, None, refl, sym, subst}
+use Rattle.std.proofs.Common.{ℕ, refl, sym, subst}
 use Rattle.tree_api.specs.Tree.{Tree}
 use Rattle.tree_memory.specs.History.{settled}
 use Rattle.tree_memory.specs.Valid.{IsValid}
-use Rattle.tree_memory.specs.Told.{tree_of, count_of, root_names, empty_tree}
+use Rattle.tree_memory.specs.Told.{tree_of, root_names}
 use Rattle.tree_memory.proofs.Valids.{valid_start}
 use Rattle.tree_memory.proofs.memory.MemoryTree.new.Goals as goal
 

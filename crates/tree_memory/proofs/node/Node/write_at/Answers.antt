@@ -1,5 +1,4 @@
 use Rattle.std.proofs.Common.{◌≡◌, ◌++◌, ◌+◌, ℕ, false, List, [], ◌∷◌, ◌==◌, length, take, drop, ap, ◌∙◌}
-use Rattle.tree_api.specs.Tree.{written}
 use Rattle.tree_memory.specs.Nodes.{version}
 use Rattle.tree_memory.proofs.Bytes.{put_bytes}
 use Rattle.tree_memory.proofs.node.Node.write_at.Goals as goal

@@ -1,4 +1,4 @@
-use Rattle.std.proofs.Common.{◌≡◌, map, take, ap, ◌∙◌, arith}
+use Rattle.std.proofs.Common.{◌≡◌, map, ap, ◌∙◌, arith}
 use Rattle.std.proofs.lemmas.List.{take_all}
 use Rattle.tree_memory.specs.Kept.{pair}
 use Rattle.tree_memory.proofs.Keeps.{same_content, same_each}

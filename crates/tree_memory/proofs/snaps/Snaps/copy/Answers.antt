@@ -1,10 +1,10 @@
-use Rattle.std.proofs.Common.{rules, ◌≡◌, ℕ, ◌++◌, [], ◌∷◌, map, sym, ap, ◌∙◌, subst}
+use Rattle.std.proofs.Common.{rules, ◌≡◌, [], ◌∷◌, map, sym, ap, ◌∙◌}
 use Rattle.std.specs.Map.Iter.{deref_pair}
 use Rattle.std.specs.Map.{update_all}
 use Rattle.std.specs.Ordering.{nat_cmp, eq_by_cmp}
 use Rattle.std.proofs.lemmas.Map.Iter.{iter_end}
 use Rattle.std.proofs.lemmas.List.{map-append}
-use Rattle.tree_memory.proofs.Copies.{contents, at_none, get_content, copied_more, copied_all}
+use Rattle.tree_memory.proofs.Copies.{contents, at_none, copied_more, copied_all}
 use Rattle.tree_memory.proofs.snaps.Snaps.copy.Goals as goal
 
 pub loop-seq-preserved-in_ok-insert : goal.loop-seq-preserved-in_ok-insert

@@ -1,9 +1,7 @@
-use Rattle.std.proofs.Common.{◌≡◌, ℕ, map, Option, None}
-use Rattle.std.specs.Option.{option_map}
+use Rattle.std.proofs.Common.{◌≡◌, ℕ, map}
 use Rattle.std.specs.Map.{update_all}
 use Rattle.std.specs.Map.Iter.{deref_pair}
 use Rattle.std.specs.Ordering.{nat_cmp, eq_by_cmp}
-use Rattle.tree_memory.specs.Kept.{content_of}
 use Rattle.tree_memory.proofs.Copies.{contents, at_none, get_content}
 use Rattle.tree_memory.proofs.snaps.Snaps.copy.Given as goal
 

@@ -1,4 +1,4 @@
-use Rattle.std.proofs.Common.{rules, ◌≡◌, ℕ, map, subst, sym, ◌∙◌}
+use Rattle.std.proofs.Common.{rules, ◌≡◌, map, subst, sym, ◌∙◌}
 use Rattle.std.specs.Map.Iter.{deref}
 use Rattle.std.specs.BTreeMap.{keys}
 use Rattle.std.proofs.lemmas.Map.Iter.{iter_end}

@@ -1,4 +1,4 @@
-use Rattle.std.proofs.Common.{◌≡◌, ap}
+use Rattle.std.proofs.Common.{ap}
 use Rattle.std.proofs.lemmas.Result.{on_err_weaker}
 use Rattle.tree_memory.specs.Told.{tree_of}
 use Rattle.tree_memory.proofs.store.Store.apply.Goals as goal

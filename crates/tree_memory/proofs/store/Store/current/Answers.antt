@@ -1,8 +1,8 @@
-use Rattle.std.proofs.Common.{◌≡◌, ◌<◌, ◌+◌, ◌++◌, [], ◌∷◌, length, take, map, sym, ap, ◌∙◌, arith, subst}
+use Rattle.std.proofs.Common.{◌≡◌, ◌<◌, length, map, sym, ap, ◌∙◌, arith, subst}
 use Rattle.std.proofs.lemmas.List.{take_all}
-use Rattle.tree_api.specs.Tree.{Path, Tree, current}
+use Rattle.tree_api.specs.Tree.{Path, current}
 use Rattle.tree_memory.specs.Names.{names_at, IsBelow}
-use Rattle.tree_memory.specs.Nodes.{version, node_of}
+use Rattle.tree_memory.specs.Nodes.{node_of}
 use Rattle.tree_memory.specs.Kept.{pair}
 use Rattle.tree_memory.specs.Told.{tree_of, count_of}
 use Rattle.tree_memory.specs.declared.names.Name.{Name}

@@ -1,9 +1,9 @@
-use Rattle.std.proofs.Common.{◌≡◌, ◌<◌, ◌+◌, ◌++◌, [], ◌∷◌, length, take, sym, ap, subst, ◌∙◌, arith}
+use Rattle.std.proofs.Common.{◌<◌, length, sym, ap, subst, ◌∙◌, arith}
 use Rattle.std.proofs.lemmas.List.{take_all}
 use Rattle.tree_api.specs.Tree.{Version}
 use Rattle.tree_api.specs.Answer.{kind_of}
 use Rattle.tree_memory.specs.Names.{names_at, IsBelow}
-use Rattle.tree_memory.specs.Nodes.{version, node_of}
+use Rattle.tree_memory.specs.Nodes.{node_of}
 use Rattle.tree_memory.specs.Told.{tree_of, count_of}
 use Rattle.tree_memory.proofs.Listings.{listed, is_listing, listed_some, listed_none}
 use Rattle.tree_memory.proofs.Stores.{item_low, node_read}

@@ -1,7 +1,4 @@
-use Rattle.std.proofs.Common.{◌≡◌, ◌≢◌, inl, inr, true, false, refl, sym, ap, subst, ◌∙◌}
-use Rattle.tree_api.specs.Tree.{Path}
-use Rattle.tree_memory.specs.Told.{tree_of, count_of}
-use Rattle.tree_memory.specs.Nodes.{version}
+use Rattle.std.proofs.Common.{inl, inr, refl, sym, ap, ◌∙◌}
 use Rattle.tree_memory.specs.declared.event.Event.TheVariants.{Move}
 use Rattle.tree_api.specs.Tree.{Version}
 use Rattle.tree_memory.proofs.Orders.{same_path_is, same_path_other}

@@ -1,7 +1,7 @@
-use Rattle.std.proofs.Common.{◌≡◌, ◌++◌, ℕ, zero, suc, List, [], ◌∷◌, Some, None, refl, sym, ap, ◌∙◌, get_or, map}
-use Rattle.tree_api.specs.Tree.{Path, Version, Names, new_dir}
+use Rattle.std.proofs.Common.{◌≡◌, ◌++◌, ℕ, zero, suc, List, [], ◌∷◌, refl, ap, ◌∙◌}
+use Rattle.tree_api.specs.Tree.{Path, Names, new_dir}
 use Rattle.tree_memory.specs.Names.{names_at, put_at, no_names}
-use Rattle.tree_memory.specs.Nodes.{version, fresh, node_of}
+use Rattle.tree_memory.specs.Nodes.{version, node_of}
 use Rattle.tree_memory.specs.Told.{root_names}
 use Rattle.tree_memory.specs.declared.node.Node.{Node}
 use Rattle.tree_memory.proofs.store.Store.new.Goals as goal

@@ -1,8 +1,8 @@
-use Rattle.std.proofs.Common.{◌≡◌, ◌++◌, ℕ, Some, List, refl, sym, ap, subst, ◌∙◌, map}
-use Rattle.tree_api.specs.Tree.{Path, current}
+use Rattle.std.proofs.Common.{◌≡◌, ◌++◌, ℕ, sym, ap, ◌∙◌}
+use Rattle.tree_api.specs.Tree.{current}
 use Rattle.tree_memory.specs.Names.{unlinks, links, numbered}
-use Rattle.tree_memory.specs.Kept.{content_of, rests_of}
-use Rattle.tree_memory.specs.Told.{tree_of, count_of}
+use Rattle.tree_memory.specs.Kept.{rests_of}
+use Rattle.tree_memory.specs.Told.{count_of}
 use Rattle.tree_memory.specs.declared.event.Event.TheVariants.{Rollback}
 use Rattle.tree_memory.proofs.store.Store.restoring.Goals as goal
 

@@ -1,6 +1,4 @@
-use Rattle.std.proofs.Common.{◌≡◌, true, false, ap, ◌∙◌, map, length, take, arith, sym}
-use Rattle.tree_api.specs.Tree.{Version, Names}
-use Rattle.tree_memory.specs.Names.{names_at}
+use Rattle.std.proofs.Common.{◌≡◌, ap, ◌∙◌, map, take, sym}
 use Rattle.tree_memory.specs.Nodes.{version, node_of}
 use Rattle.tree_memory.specs.Told.{tree_of}
 use Rattle.tree_memory.proofs.Stores.{node_added, ok_part, err_part}

@@ -1,9 +1,6 @@
-use Rattle.std.proofs.Common.{◌≡◌, ◌≢◌, ℕ, Some, None, sym, ap, subst, ◌∙◌, refl}
-use Rattle.tree_api.specs.Tree.{Path, Tree, Version, IsFile, IsDir, Written, AttrIs, Cut}
-use Rattle.tree_memory.specs.Told.{tree_of, count_of}
+use Rattle.tree_memory.specs.Told.{count_of}
 use Rattle.tree_memory.specs.Tells.{state_of}
-use Rattle.tree_memory.specs.Nodes.{written_in, cut_to, with_attr}
-use Rattle.std.proofs.Common.{true, false}
+use Rattle.std.proofs.Common.{false}
 use Rattle.tree_memory.proofs.Dones.{make_call, make_valid, make_suits}
 use Rattle.tree_memory.proofs.tree.MemoryTreeFileTree.create.Goals as goal
 

@@ -1,7 +1,5 @@
-use Rattle.std.proofs.Common.{◌≡◌, ◌<◌, ℕ, true, false, refl, sym, ap, subst, ◌∙◌}
-use Rattle.tree_api.specs.Tree.{Path, Tree, look}
-use Rattle.tree_memory.specs.Told.{tree_of, count_of}
-use Rattle.tree_memory.specs.Tells.{state_of}
+use Rattle.std.proofs.Common.{sym, subst}
+use Rattle.tree_api.specs.Tree.{Tree}
 use Rattle.tree_memory.proofs.Pushes.{tied_low}
 use Rattle.tree_api.specs.Answer.{IsListing}
 use Rattle.tree_memory.proofs.tree.MemoryTreeFileTree.list.Goals as goal

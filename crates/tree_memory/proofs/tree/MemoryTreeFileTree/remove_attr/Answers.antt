@@ -1,9 +1,9 @@
-use Rattle.std.proofs.Common.{◌≡◌, ◌≢◌, ℕ, Some, None, sym, ap, subst, ◌∙◌, refl}
-use Rattle.tree_api.specs.Tree.{Path, Tree, Version, IsFile, IsDir, Written, AttrIs, Cut}
-use Rattle.tree_memory.specs.Told.{tree_of, count_of}
+use Rattle.std.proofs.Common.{None, refl}
+use Rattle.tree_api.specs.Tree.{AttrIs}
+use Rattle.tree_memory.specs.Told.{count_of}
 use Rattle.tree_memory.specs.Tells.{state_of}
-use Rattle.tree_memory.specs.Nodes.{written_in, cut_to, with_attr}
-use Rattle.tree_memory.proofs.Dones.{change_call, change_valid, change_suits, attr_is, written_short, cut_short, file_there, seen_there, if_changed}
+use Rattle.tree_memory.specs.Nodes.{with_attr}
+use Rattle.tree_memory.proofs.Dones.{change_call, change_valid, change_suits, attr_is, seen_there, if_changed}
 use Rattle.tree_memory.proofs.tree.MemoryTreeFileTree.remove_attr.Goals as goal
 
 pub unsetting-event-requires : goal.unsetting-event-requires

@@ -1,9 +1,9 @@
-use Rattle.std.proofs.Common.{◌≡◌, ◌≢◌, ℕ, Some, None, sym, ap, subst, ◌∙◌, refl}
-use Rattle.tree_api.specs.Tree.{Path, Tree, Version, IsFile, IsDir, Written, AttrIs, Cut}
-use Rattle.tree_memory.specs.Told.{tree_of, count_of}
+use Rattle.std.proofs.Common.{refl}
+use Rattle.tree_api.specs.Tree.{Cut}
+use Rattle.tree_memory.specs.Told.{count_of}
 use Rattle.tree_memory.specs.Tells.{state_of}
-use Rattle.tree_memory.specs.Nodes.{written_in, cut_to, with_attr}
-use Rattle.tree_memory.proofs.Dones.{change_call, change_valid, change_suits, attr_is, written_short, cut_short, file_there, seen_there, if_changed}
+use Rattle.tree_memory.specs.Nodes.{cut_to}
+use Rattle.tree_memory.proofs.Dones.{change_call, change_valid, change_suits, cut_short, file_there, seen_there, if_changed}
 use Rattle.tree_memory.proofs.tree.MemoryTreeFileTree.set_len.Goals as goal
 
 pub cutting-event-requires-clause-there : goal.cutting-event-requires-clause-there

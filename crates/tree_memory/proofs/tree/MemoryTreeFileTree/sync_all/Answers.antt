@@ -1,10 +1,6 @@
-use Rattle.std.proofs.Common.{◌≡◌, ◌<◌, ◌^◌, cond, ℕ, true, false, refl, sym, ap, subst, ◌∙◌}
 use Rattle.std.proofs.Common.{arith}
 use Rattle.std.proofs.lemmas.Grind.{common_steps}
-use Rattle.tree_api.specs.Tree.{Path, Tree, look}
-use Rattle.tree_memory.specs.Told.{tree_of, count_of}
-use Rattle.tree_memory.specs.Tells.{state_of}
-use Rattle.tree_memory.proofs.Pushes.{tied_low}
+use Rattle.tree_memory.specs.Told.{tree_of}
 use Rattle.tree_memory.proofs.Dones.{sync_all_call}
 use Rattle.tree_memory.proofs.Pushes.{tied_synced}
 use Rattle.tree_memory.specs.Log.{replay, start}

@@ -1,8 +1,5 @@
-use Rattle.std.proofs.Common.{◌≡◌, ◌≢◌, ℕ, Some, None, sym, ap, subst, ◌∙◌, refl}
-use Rattle.tree_api.specs.Tree.{Path, Tree, Version, IsFile, IsDir, Written, AttrIs, Cut}
-use Rattle.tree_memory.specs.Told.{tree_of, count_of}
+use Rattle.tree_memory.specs.Told.{count_of}
 use Rattle.tree_memory.specs.Tells.{state_of}
-use Rattle.tree_memory.specs.Nodes.{written_in, cut_to, with_attr}
 use Rattle.tree_memory.proofs.Dones.{names_call, names_valid}
 use Rattle.tree_memory.proofs.tree.MemoryTreeFileTree.sync_names.Goals as goal
 
