@@ -1,7 +1,8 @@
 .PHONY: run test
 
 run:
-	cd crates/filestore_cli && rt run -- store journal run new < stdin
+	mkdir -p out
+	cd crates/filestore_cli && rt run -- ../../out/store ../../out/journal run new < stdin
 
 test:
 	.ci/run

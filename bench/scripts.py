@@ -16,14 +16,17 @@ PROGRAM = os.path.join(ROOT, "crates", "filestore_cli", "out", "filestore_cli")
 
 
 def script(size):
-    """A script of about so many bytes: writes to 1,000 objects, a drain every 500 of them, now and then a read and a page."""
+    """A script of about so many bytes: writes to 1,000 objects, a drain every 500 of them, now and then a read and a page.
+
+    Each write takes one block of the journal, so that the longest script's fit into a new one of 64 MB.
+    """
     lines = ["mkcoll 1.0_head"]
     total = len(lines[0]) + 1
     number = 0
     while total < size:
         name = number % 1000
         place = f"1.0_head/o{name}__head_{name:08X}__1"
-        line = f"write {place} {number % 4096} x{'5a' * 64}"
+        line = f"write {place} {number % 4096} x{'5a' * 2048}"
         number += 1
         lines.append(line)
         total += len(line) + 1
@@ -48,7 +51,7 @@ def main():
             size = os.path.getsize(path)
             with open(path) as source, open(os.devnull, "w") as sink:
                 start = time.monotonic()
-                child = subprocess.Popen([PROGRAM, "store", "journal", "run", "new"], stdin=source, stdout=sink)
+                child = subprocess.Popen([PROGRAM, "store", os.path.join(folder, f"journal{megabytes}"), "run", "new"], stdin=source, stdout=sink)
                 _, status, usage = os.wait4(child.pid, 0)
                 seconds = time.monotonic() - start
             if os.waitstatus_to_exitcode(status) != 0:
