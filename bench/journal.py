@@ -1,7 +1,7 @@
 #!/usr/bin/env python3
 """Times transactions of one block each through the program and its journal, with a drain every 100.
 
-Scripts of 100, 1,000 and 10,000 writes of 3,800 bytes run on a store that is there, each on a file of its own size.
+Scripts of 100, 1,000 and 10,000 writes of 3,000 bytes run on a store that is there, each on a file of its own size.
 Beside them a plain C program writes as many blocks of 4,096 bytes and calls fdatasync as often. Prints, for each, the
 microseconds per transaction of both, the least of three rounds, and the ratio. Build the program first: `make run`.
 The folder is the first word, or the system's one for temporary files.
@@ -24,7 +24,7 @@ def script(count):
     lines = ["mkcoll 1.0_head"]
     for number in range(count):
         name = number % 100
-        lines.append(f"write 1.0_head/o{name}__head_{name:08X}__1 0 x{'5a' * 3800}")
+        lines.append(f"write 1.0_head/o{name}__head_{name:08X}__1 0 x{'5a' * 3000}")
         if (number + 1) % GROUP == 0:
             lines.append("drain")
     return "\n".join(lines) + "\n"
