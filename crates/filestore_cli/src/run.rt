@@ -143,7 +143,7 @@ fn mount_store<K: Sink, D: Device>(
     ensures fresh { IfOk result (λ store. store.session.waiting ≡ []) }
     ensures holds { D.tells ≡ true → IfOk result (λ store. Holds (history store.session []) store.ring (D.disk dev.new)) }
     ensures size { IfOk result (λ store. store.ring.head.size ≡ D.extent dev.new) }
-    ensures keeps { D.tells ≡ true → KeepsStore Command.Run (D.disk dev.old) (D.disk dev.new) }
+    ensures keeps { D.tells ≡ true → KeepsStore Command.Run (place Command.Run (D.extent dev.old) (D.disk dev.old) (D.disk dev.new) (D.past dev.old) (D.past dev.new)) }
     ensures stopped { IfErr result (λ status. (status.0 ≡ 4) ⊎ (status.0 ≡ 7) ⊎ (status.0 ≡ 9)) }
     ensures refused { D.tells ≡ true → IfErr result (λ status. status.0 ≡ 7 → (line : List ℕ) × CannotStart Command.Run (D.extent dev.old) (D.disk dev.old) line × EndsWith (taken (K.faults sink.old) (K.faults sink.new) (K.written sink.old) (K.written sink.new)) [] line) }
     ensures device { IfErr result (λ status. status.0 ≡ 4 → Counted (D.faults dev.old) (D.faults dev.new)) }
@@ -189,6 +189,7 @@ fn make_store<K: Sink, D: Device>(
     ensures holds { D.tells ≡ true → IfOk result (λ store. Holds (history store.session []) store.ring (D.disk dev.new)) }
     ensures size { IfOk result (λ store. store.ring.head.size ≡ D.extent dev.new) }
     ensures fits { OnOk result (IsSize (D.extent dev.old)) }
+    ensures keeps { D.tells ≡ true → KeepsStore Command.RunNew (place Command.RunNew (D.extent dev.old) (D.disk dev.old) (D.disk dev.new) (D.past dev.old) (D.past dev.new)) }
     ensures stopped { IfErr result (λ status. (status.0 ≡ 4) ⊎ (status.0 ≡ 7) ⊎ (status.0 ≡ 9)) }
     ensures refused { D.tells ≡ true → IfErr result (λ status. status.0 ≡ 7 → (line : List ℕ) × CannotStart Command.RunNew (D.extent dev.old) (D.disk dev.old) line × EndsWith (taken (K.faults sink.old) (K.faults sink.new) (K.written sink.old) (K.written sink.new)) [] line) }
     ensures device { IfErr result (λ status. status.0 ≡ 4 → Counted (D.faults dev.old) (D.faults dev.new)) }
@@ -231,7 +232,7 @@ fn start<K: Sink, D: Device>(
     ensures fresh { IfOk result (λ store. store.session.waiting ≡ []) }
     ensures holds { D.tells ≡ true → IfOk result (λ store. Holds (history store.session []) store.ring (D.disk dev.new)) }
     ensures size { IfOk result (λ store. store.ring.head.size ≡ D.extent dev.new) }
-    ensures keeps { D.tells ≡ true → KeepsStore command (D.disk dev.old) (D.disk dev.new) }
+    ensures keeps { D.tells ≡ true → KeepsStore command (place command (D.extent dev.old) (D.disk dev.old) (D.disk dev.new) (D.past dev.old) (D.past dev.new)) }
     ensures stopped { IfErr result (λ status. (status.0 ≡ 4) ⊎ (status.0 ≡ 7) ⊎ (status.0 ≡ 9)) }
     ensures can { D.tells ≡ true → OnOk result (CanStart command (D.extent dev.old) (D.disk dev.old)) }
     ensures refused { D.tells ≡ true → IfErr result (λ status. status.0 ≡ 7 → (line : List ℕ) × CannotStart command (D.extent dev.old) (D.disk dev.old) line × EndsWith (taken (K.faults sink.old) (K.faults sink.new) (K.written sink.old) (K.written sink.new)) [] line) }
@@ -274,12 +275,12 @@ fn run_on<K: Sink, D: Device>(
     ensures statuses { (result.0 ≡ 0) ⊎ (result.0 ≡ 4) ⊎ (result.0 ≡ 6) ⊎ (result.0 ≡ 7) ⊎ (result.0 ≡ 9) }
     ensures done { D.tells ≡ true → result.0 ≡ 0 → (s : Session) × Starts command (D.extent dev.old) (D.disk dev.old) s × Writes (taken (K.faults sink.old) (K.faults sink.new) (K.written sink.old) (K.written sink.new)) (answers_text s script) × Survives s script script (D.disk dev.new) }
     ensures device { result.0 ≡ 4 → Counted (D.faults dev.old) (D.faults dev.new) }
-    ensures device_stop { D.tells ≡ true → result.0 ≡ 4 → Halts (place command (D.extent dev.old) (D.disk dev.old) (D.disk dev.new)) script DEVICE_LINE.now (taken (K.faults sink.old) (K.faults sink.new) (K.written sink.old) (K.written sink.new)) }
+    ensures device_stop { D.tells ≡ true → result.0 ≡ 4 → Halts (place command (D.extent dev.old) (D.disk dev.old) (D.disk dev.new) (D.past dev.old) (D.past dev.new)) script DEVICE_LINE.now (taken (K.faults sink.old) (K.faults sink.new) (K.written sink.old) (K.written sink.new)) }
     ensures failed { result.0 ≡ 6 → Counted (K.faults sink.old) (K.faults sink.new) }
     ensures part { D.tells ≡ true → result.0 ≡ 6 → (s : Session) × Starts command (D.extent dev.old) (D.disk dev.old) s × Cut (Unit {0}) s script (taken (K.faults sink.old) (K.faults sink.new) (K.written sink.old) (K.written sink.new)) (D.disk dev.new) }
-    ensures unstarted { D.tells ≡ true → result.0 ≡ 7 → Unstarted (place command (D.extent dev.old) (D.disk dev.old) (D.disk dev.new)) (taken (K.faults sink.old) (K.faults sink.new) (K.written sink.old) (K.written sink.new)) }
+    ensures unstarted { D.tells ≡ true → result.0 ≡ 7 → Unstarted (place command (D.extent dev.old) (D.disk dev.old) (D.disk dev.new) (D.past dev.old) (D.past dev.new)) (taken (K.faults sink.old) (K.faults sink.new) (K.written sink.old) (K.written sink.new)) }
     ensures can { D.tells ≡ true → (result.0 ≡ 0) ⊎ (result.0 ≡ 6) → CanStart command (D.extent dev.old) (D.disk dev.old) }
-    ensures memory_stop { D.tells ≡ true → result.0 ≡ 9 → Halts (place command (D.extent dev.old) (D.disk dev.old) (D.disk dev.new)) script MEMORY_LINE.now (taken (K.faults sink.old) (K.faults sink.new) (K.written sink.old) (K.written sink.new)) }
+    ensures memory_stop { D.tells ≡ true → result.0 ≡ 9 → Halts (place command (D.extent dev.old) (D.disk dev.old) (D.disk dev.new) (D.past dev.old) (D.past dev.new)) script MEMORY_LINE.now (taken (K.faults sink.old) (K.faults sink.new) (K.written sink.old) (K.written sink.new)) }
 {
     let store = match start(alloc, command, dev, sink) {
         Ok(store) => store,
@@ -298,17 +299,17 @@ fn run_text<K: Sink, D: Device>(
 ) -> Status
     ensures later { (K.faults sink.old ≤ K.faults sink.new) × (D.faults dev.old ≤ D.faults dev.new) }
     ensures statuses { (result.0 ≡ 0) ⊎ (result.0 ≡ 2) ⊎ (result.0 ≡ 4) ⊎ (result.0 ≡ 6) ⊎ (result.0 ≡ 7) ⊎ (result.0 ≡ 9) }
-    ensures done { D.tells ≡ true → result.0 ≡ 0 → AllAnswered (place command (D.extent dev.old) (D.disk dev.old) (D.disk dev.new)) text.now (taken (K.faults sink.old) (K.faults sink.new) (K.written sink.old) (K.written sink.new)) }
+    ensures done { D.tells ≡ true → result.0 ≡ 0 → AllAnswered (place command (D.extent dev.old) (D.disk dev.old) (D.disk dev.new) (D.past dev.old) (D.past dev.new)) text.now (taken (K.faults sink.old) (K.faults sink.new) (K.written sink.old) (K.written sink.new)) }
     ensures refused { result.0 ≡ 2 → (line : ℕ) × (why : ScriptWhy) × (script_said text.now ≡ Err (record { line = line; why = why })) × EndsWith (taken (K.faults sink.old) (K.faults sink.new) (K.written sink.old) (K.written sink.new)) [] (refusal_text line why) }
     ensures untouched { result.0 ≡ 2 → dev.new ≡ dev.old }
     ensures device { result.0 ≡ 4 → Counted (D.faults dev.old) (D.faults dev.new) }
-    ensures device_stop { D.tells ≡ true → result.0 ≡ 4 → Stops (place command (D.extent dev.old) (D.disk dev.old) (D.disk dev.new)) text.now DEVICE_LINE.now (taken (K.faults sink.old) (K.faults sink.new) (K.written sink.old) (K.written sink.new)) }
+    ensures device_stop { D.tells ≡ true → result.0 ≡ 4 → Stops (place command (D.extent dev.old) (D.disk dev.old) (D.disk dev.new) (D.past dev.old) (D.past dev.new)) text.now DEVICE_LINE.now (taken (K.faults sink.old) (K.faults sink.new) (K.written sink.old) (K.written sink.new)) }
     ensures failed { result.0 ≡ 6 → Counted (K.faults sink.old) (K.faults sink.new) }
-    ensures part { D.tells ≡ true → result.0 ≡ 6 → AnswersBeginning (place command (D.extent dev.old) (D.disk dev.old) (D.disk dev.new)) text.now (taken (K.faults sink.old) (K.faults sink.new) (K.written sink.old) (K.written sink.new)) }
-    ensures unstarted { D.tells ≡ true → result.0 ≡ 7 → Unstarted (place command (D.extent dev.old) (D.disk dev.old) (D.disk dev.new)) (taken (K.faults sink.old) (K.faults sink.new) (K.written sink.old) (K.written sink.new)) }
+    ensures part { D.tells ≡ true → result.0 ≡ 6 → AnswersBeginning (place command (D.extent dev.old) (D.disk dev.old) (D.disk dev.new) (D.past dev.old) (D.past dev.new)) text.now (taken (K.faults sink.old) (K.faults sink.new) (K.written sink.old) (K.written sink.new)) }
+    ensures unstarted { D.tells ≡ true → result.0 ≡ 7 → Unstarted (place command (D.extent dev.old) (D.disk dev.old) (D.disk dev.new) (D.past dev.old) (D.past dev.new)) (taken (K.faults sink.old) (K.faults sink.new) (K.written sink.old) (K.written sink.new)) }
     ensures said { (result.0 ≡ 0) ⊎ (result.0 ≡ 4) ⊎ (result.0 ≡ 6) ⊎ (result.0 ≡ 7) → IsScript text.now }
     ensures can { D.tells ≡ true → (result.0 ≡ 0) ⊎ (result.0 ≡ 6) → CanStart command (D.extent dev.old) (D.disk dev.old) }
-    ensures memory_stop { D.tells ≡ true → result.0 ≡ 9 → Stops (place command (D.extent dev.old) (D.disk dev.old) (D.disk dev.new)) text.now MEMORY_LINE.now (taken (K.faults sink.old) (K.faults sink.new) (K.written sink.old) (K.written sink.new)) }
+    ensures memory_stop { D.tells ≡ true → result.0 ≡ 9 → Stops (place command (D.extent dev.old) (D.disk dev.old) (D.disk dev.new) (D.past dev.old) (D.past dev.new)) text.now MEMORY_LINE.now (taken (K.faults sink.old) (K.faults sink.new) (K.written sink.old) (K.written sink.new)) }
 {
     match parse_script(alloc, text) {
         Ok(script) => run_on(alloc, command, script, dev, sink),
@@ -327,19 +328,19 @@ fn run_command<S: Source, K: Sink, D: Device>(
 ) -> Status
     ensures later { (S.faults source.old ≤ S.faults source.new) × (D.faults dev.old ≤ D.faults dev.new) × (K.faults sink.old ≤ K.faults sink.new) }
     ensures statuses { (result.0 ≡ 0) ⊎ (result.0 ≡ 2) ⊎ (result.0 ≡ 4) ⊎ (result.0 ≡ 5) ⊎ (result.0 ≡ 6) ⊎ (result.0 ≡ 7) ⊎ (result.0 ≡ 9) }
-    ensures done { D.tells ≡ true → result.0 ≡ 0 → IfSome (S.left source.old) (λ bytes. AnswersAll (place command (D.extent dev.old) (D.disk dev.old) (D.disk dev.new)) bytes (S.left source.new) (taken (K.faults sink.old) (K.faults sink.new) (K.written sink.old) (K.written sink.new))) }
+    ensures done { D.tells ≡ true → result.0 ≡ 0 → IfSome (S.left source.old) (λ bytes. AnswersAll (place command (D.extent dev.old) (D.disk dev.old) (D.disk dev.new) (D.past dev.old) (D.past dev.new)) bytes (S.left source.new) (taken (K.faults sink.old) (K.faults sink.new) (K.written sink.old) (K.written sink.new))) }
     ensures refused { result.0 ≡ 2 → IfSome (S.left source.old) (λ bytes. Refuses bytes (S.left source.new) (taken (K.faults sink.old) (K.faults sink.new) (K.written sink.old) (K.written sink.new))) }
     ensures untouched { (result.0 ≡ 2) ⊎ (result.0 ≡ 5) → dev.new ≡ dev.old }
     ensures device { result.0 ≡ 4 → Counted (D.faults dev.old) (D.faults dev.new) }
-    ensures device_stop { D.tells ≡ true → result.0 ≡ 4 → IfSome (S.left source.old) (λ bytes. Stops (place command (D.extent dev.old) (D.disk dev.old) (D.disk dev.new)) bytes DEVICE_LINE.now (taken (K.faults sink.old) (K.faults sink.new) (K.written sink.old) (K.written sink.new))) }
+    ensures device_stop { D.tells ≡ true → result.0 ≡ 4 → IfSome (S.left source.old) (λ bytes. Stops (place command (D.extent dev.old) (D.disk dev.old) (D.disk dev.new) (D.past dev.old) (D.past dev.new)) bytes DEVICE_LINE.now (taken (K.faults sink.old) (K.faults sink.new) (K.written sink.old) (K.written sink.new))) }
     ensures read { result.0 ≡ 5 → Counted (S.faults source.old) (S.faults source.new) }
     ensures read_line { result.0 ≡ 5 → EndsWith (taken (K.faults sink.old) (K.faults sink.new) (K.written sink.old) (K.written sink.new)) [] READ_LINE.now }
     ensures failed { result.0 ≡ 6 → Counted (K.faults sink.old) (K.faults sink.new) }
-    ensures part { D.tells ≡ true → result.0 ≡ 6 → IfSome (S.left source.old) (λ bytes. AnswersBeginning (place command (D.extent dev.old) (D.disk dev.old) (D.disk dev.new)) bytes (taken (K.faults sink.old) (K.faults sink.new) (K.written sink.old) (K.written sink.new))) }
-    ensures unstarted { D.tells ≡ true → result.0 ≡ 7 → Unstarted (place command (D.extent dev.old) (D.disk dev.old) (D.disk dev.new)) (taken (K.faults sink.old) (K.faults sink.new) (K.written sink.old) (K.written sink.new)) }
+    ensures part { D.tells ≡ true → result.0 ≡ 6 → IfSome (S.left source.old) (λ bytes. AnswersBeginning (place command (D.extent dev.old) (D.disk dev.old) (D.disk dev.new) (D.past dev.old) (D.past dev.new)) bytes (taken (K.faults sink.old) (K.faults sink.new) (K.written sink.old) (K.written sink.new))) }
+    ensures unstarted { D.tells ≡ true → result.0 ≡ 7 → Unstarted (place command (D.extent dev.old) (D.disk dev.old) (D.disk dev.new) (D.past dev.old) (D.past dev.new)) (taken (K.faults sink.old) (K.faults sink.new) (K.written sink.old) (K.written sink.new)) }
     ensures said { (result.0 ≡ 0) ⊎ (result.0 ≡ 4) ⊎ (result.0 ≡ 6) ⊎ (result.0 ≡ 7) → IfSome (S.left source.old) IsScript }
     ensures can { D.tells ≡ true → (result.0 ≡ 0) ⊎ (result.0 ≡ 6) → CanStart command (D.extent dev.old) (D.disk dev.old) }
-    ensures memory_stop { D.tells ≡ true → result.0 ≡ 9 → IfSome (S.left source.old) (λ bytes. Stops (place command (D.extent dev.old) (D.disk dev.old) (D.disk dev.new)) bytes MEMORY_LINE.now (taken (K.faults sink.old) (K.faults sink.new) (K.written sink.old) (K.written sink.new))) }
+    ensures memory_stop { D.tells ≡ true → result.0 ≡ 9 → IfSome (S.left source.old) (λ bytes. Stops (place command (D.extent dev.old) (D.disk dev.old) (D.disk dev.new) (D.past dev.old) (D.past dev.new)) bytes MEMORY_LINE.now (taken (K.faults sink.old) (K.faults sink.new) (K.written sink.old) (K.written sink.new))) }
 {
     match read_all(alloc, source, SCRIPT_LIMIT) {
         Ok(text) => run_text(alloc, command, text.slice(), dev, sink),
@@ -371,7 +372,7 @@ pub fn run<S: Source, K: Sink, D: Device>(
 
     // 0: the answers of the whole script.
     ensures done { D.tells ≡ true → (command : Command) → command_of words.now ≡ Some command → result.0 ≡ 0 → IfSome (S.left source.old) (λ bytes.
-        AnswersAll (place command (D.extent device.old) (D.disk device.old) (D.disk device.new)) bytes (S.left source.new) (taken (K.faults sink.old) (K.faults sink.new) (K.written sink.old) (K.written sink.new))) }
+        AnswersAll (place command (D.extent device.old) (D.disk device.old) (D.disk device.new) (D.past device.old) (D.past device.new)) bytes (S.left source.new) (taken (K.faults sink.old) (K.faults sink.new) (K.written sink.old) (K.written sink.new))) }
 
     // 2: the first refused line.
     ensures refused { result.0 ≡ 2 → IfSome (S.left source.old) (λ bytes. Refuses bytes (S.left source.new) (taken (K.faults sink.old) (K.faults sink.new) (K.written sink.old) (K.written sink.new))) }
@@ -381,21 +382,21 @@ pub fn run<S: Source, K: Sink, D: Device>(
     // 4, 5 and 6: the device, the source or the sink counted a fault.
     ensures device { result.0 ≡ 4 → Counted (D.faults device.old) (D.faults device.new) }
     ensures device_stop { D.tells ≡ true → (command : Command) → command_of words.now ≡ Some command → result.0 ≡ 4 → IfSome (S.left source.old) (λ bytes.
-        Stops (place command (D.extent device.old) (D.disk device.old) (D.disk device.new)) bytes DEVICE_LINE.now (taken (K.faults sink.old) (K.faults sink.new) (K.written sink.old) (K.written sink.new))) }
+        Stops (place command (D.extent device.old) (D.disk device.old) (D.disk device.new) (D.past device.old) (D.past device.new)) bytes DEVICE_LINE.now (taken (K.faults sink.old) (K.faults sink.new) (K.written sink.old) (K.written sink.new))) }
     ensures read { result.0 ≡ 5 → Counted (S.faults source.old) (S.faults source.new) }
     ensures read_line { result.0 ≡ 5 → EndsWith (taken (K.faults sink.old) (K.faults sink.new) (K.written sink.old) (K.written sink.new)) [] READ_LINE.now }
     ensures failed { result.0 ≡ 6 → Counted (K.faults sink.old) (K.faults sink.new) }
     ensures part { D.tells ≡ true → (command : Command) → command_of words.now ≡ Some command → result.0 ≡ 6 → IfSome (S.left source.old) (λ bytes.
-        AnswersBeginning (place command (D.extent device.old) (D.disk device.old) (D.disk device.new)) bytes (taken (K.faults sink.old) (K.faults sink.new) (K.written sink.old) (K.written sink.new))) }
+        AnswersBeginning (place command (D.extent device.old) (D.disk device.old) (D.disk device.new) (D.past device.old) (D.past device.new)) bytes (taken (K.faults sink.old) (K.faults sink.new) (K.written sink.old) (K.written sink.new))) }
 
     // 7: a store can't be made or mounted.
-    ensures unstarted { D.tells ≡ true → (command : Command) → command_of words.now ≡ Some command → result.0 ≡ 7 → Unstarted (place command (D.extent device.old) (D.disk device.old) (D.disk device.new)) (taken (K.faults sink.old) (K.faults sink.new) (K.written sink.old) (K.written sink.new)) }
+    ensures unstarted { D.tells ≡ true → (command : Command) → command_of words.now ≡ Some command → result.0 ≡ 7 → Unstarted (place command (D.extent device.old) (D.disk device.old) (D.disk device.new) (D.past device.old) (D.past device.new)) (taken (K.faults sink.old) (K.faults sink.new) (K.written sink.old) (K.written sink.new)) }
     ensures not_started { D.tells ≡ true → (command : Command) (line : List ℕ) → command_of words.now ≡ Some command
         → CannotStart command (D.extent device.old) (D.disk device.old) line → IsNotStarted result.0 }
 
     // 9: want of memory, which is free.
     ensures memory { D.tells ≡ true → (command : Command) → command_of words.now ≡ Some command → result.0 ≡ 9 → IfSome (S.left source.old) (λ bytes.
-        Stops (place command (D.extent device.old) (D.disk device.old) (D.disk device.new)) bytes MEMORY_LINE.now (taken (K.faults sink.old) (K.faults sink.new) (K.written sink.old) (K.written sink.new))) }
+        Stops (place command (D.extent device.old) (D.disk device.old) (D.disk device.new) (D.past device.old) (D.past device.new)) bytes MEMORY_LINE.now (taken (K.faults sink.old) (K.faults sink.new) (K.written sink.old) (K.written sink.new))) }
 
     // A script is run to its end where a store can be started and nothing fails.
     ensures complete { D.tells ≡ true → (command : Command) → command_of words.now ≡ Some command → CanStart command (D.extent device.old) (D.disk device.old)

@@ -15,14 +15,14 @@ ghost use Rattle.filestore_cli.specs.Rooms.{room_for};
 
 use crate::page;
 use dev_api::Device;
-use fs_model::{Blob, CollList, Op, PlainObjects, Txn, TxnFault, add_txn, undo_txn};
+use fs_model::{Blob, CollList, PlainObjects, Txn, TxnFault, add_txn, undo_txn};
 use fs_names::{Coll, Oid};
 use fs_script::{Answer, Cursor};
 use ring_frame::need;
 use std::alloc::{AllocError, Global};
 use std::marker::Model;
 use txn_codec::{encodable_law, encode_txn};
-use txn_journal::{Journal, MountedJournal, WriteFault};
+use txn_journal::{Journal, MountedJournal, WriteFault, apply_ops};
 
 /// How many transactions may wait.
 const QUEUE_LIMIT: usize = 1_024;
@@ -242,18 +242,7 @@ fn apply_all(objects: &mut PlainObjects, txns: &[Txn]) -> Result<(), AllocError>
     ensures { OnOk result (objects.new ≡ fold_ops objects.old (flat_map (λ txn. txn.ops) txns.now)) }
 {
     for txn in txns {
-        apply(objects, txn.ops.slice())?;
-    }
-    Ok(())
-}
-
-// Applies operations in turn.
-fn apply(objects: &mut PlainObjects, ops: &[Op]) -> Result<(), AllocError>
-    requires { AllByRecursion IsWithinLimits ops.now }
-    ensures { OnOk result (objects.new ≡ fold_ops objects.old ops.now) }
-{
-    for op in ops {
-        objects.apply(op)?;
+        apply_ops(objects, txn.ops.slice())?;
     }
     Ok(())
 }

@@ -1,11 +1,12 @@
 // The writes of a ring that is made.
-ghost use Rattle.std.specs.Prelude.{◌≡◌, ◌⊎◌, ℕ, ◌+◌, ◌*◌, ◌%◌, ◌<◌, ◌≤◌, ◌^◌, List, replicate, length, true, OnOk, IfErr, IsErrOf};
+ghost use Rattle.std.specs.Prelude.{◌≡◌, ◌⊎◌, ℕ, ◌+◌, ◌*◌, ◌%◌, ◌<◌, ◌≤◌, ◌^◌, List, replicate, length, true, OnOk, OnErr, IfErr, IsErrOf};
 ghost use Rattle.fault_count.specs.Counted.{Counted};
 ghost use Rattle.dev_api.specs.Disk.{Disk, put, wrote, settled};
-ghost use Rattle.dev_api.specs.Run.{Keeps};
+ghost use Rattle.dev_api.specs.Run.{Keeps, Since};
 ghost use Rattle.ring_frame.specs.Frame.{Entry};
 ghost use Rattle.ring_frame.specs.Heads.{Head, head_block};
 ghost use Rattle.ring_images.specs.Held.{LeavesEither};
+ghost use Rattle.ring_journal.specs.Came.{Came, IsPending};
 
 use crate::fault::RingFault;
 use dev_api::{DevError, Device};
@@ -15,8 +16,11 @@ use ring_frame::{RingHead, write_head};
 pub fn wipe<D: Device>(dev: &mut D, size: u64) -> Result<(), DevError>
     requires extent { D.extent dev.old ≡ size }
     requires blocks { size % 4096 ≡ 0 }
+    requires least { 4096 ≤ size }
     requires small { size ≤ 2 ^ 40 }
     ensures zeros { D.tells ≡ true → OnOk result ((D.disk dev.new).reads ≡ replicate size 0) }
+    ensures pending { D.tells ≡ true → OnOk result (IsPending (D.disk dev.new)) }
+    ensures since { D.tells ≡ true → Since IsPending (D.past dev.old) (D.past dev.new) }
     ensures extent { D.extent dev.new ≡ D.extent dev.old }
     ensures faults { D.faults dev.old ≤ D.faults dev.new }
     ensures cause { IsErrOf result DevError.Refused → Counted (D.faults dev.old) (D.faults dev.new) }
@@ -36,6 +40,8 @@ pub fn write_header<D: Device>(dev: &mut D, slot: u64, head: &RingHead) -> Resul
         → LeavesEither h fs all g es (wrote (D.disk dev.old) (slot * 4096) (head_block head.now))
         → LeavesEither h fs all g es (settled (put (D.disk dev.old).reads (slot * 4096) (head_block head.now)))
         → Keeps (LeavesEither h fs all g es) (D.disk dev.new) (D.past dev.old) (D.past dev.new) }
+    ensures came { D.tells ≡ true → OnOk result (Came (settled (put (D.disk dev.old).reads (slot * 4096) (head_block head.now))) (D.past dev.old) (D.past dev.new)) }
+    ensures since { D.tells ≡ true → OnErr result (Since IsPending (D.past dev.old) (D.past dev.new)) }
     ensures only { IfErr result (λ fault. (fault ≡ RingFault.Dev) ⊎ (fault ≡ RingFault.Memory)) }
     ensures extent { D.extent dev.new ≡ D.extent dev.old }
     ensures faults { D.faults dev.old ≤ D.faults dev.new }

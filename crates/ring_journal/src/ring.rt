@@ -9,6 +9,7 @@ ghost use Rattle.ring_images.specs.Headers.{IsSize};
 ghost use Rattle.ring_frame.specs.Heads.{Head, head_of};
 ghost use Rattle.ring_images.specs.Turned.{place_of};
 ghost use Rattle.ring_journal.specs.Fault.{IsLoadFault};
+ghost use Rattle.ring_journal.specs.Came.{Came};
 ghost use Rattle.ring_journal.specs.State.{State, IsState, Loaded, Ended, IsAtEnd, told_first, from, next_head, IsSettled, Holds, NowHolds, free_of, entry_of, IsTooLarge, IsFull, IsUnspent, MayRise, Follows, made, first_head};
 
 use crate::begin::{below, next_header, number_from, restart, size_of_first};
@@ -67,11 +68,13 @@ impl Ring {
     }
 
     /// Writes a new ring over the whole device, for entries from number 1 on. After an Err the device has no ring that
-    /// may be used.
+    /// may be used, and the made one was never there.
     pub fn make<D: Device>(dev: &mut D, fsid: &[u8; 16]) -> Result<(), RingFault>
         requires size { IsSize (D.extent dev.old) }
         ensures made { D.tells ≡ true → OnOk result (D.disk dev.new ≡ settled (made fsid.now (D.extent dev.old))) }
         ensures left { D.tells ≡ true → OnOk result (Leaves (first_head fsid.now (D.extent dev.old)) [] [] (D.disk dev.new)) }
+        ensures came { D.tells ≡ true → OnOk result (Came (settled (made fsid.now (D.extent dev.old))) (D.past dev.old) (D.past dev.new)) }
+        ensures unmade { D.tells ≡ true → OnErr result (Came (settled (made fsid.now (D.extent dev.old))) (D.past dev.old) (D.past dev.new) → ⊥) }
         ensures only { IfErr result (λ fault. (fault ≡ RingFault.Dev) ⊎ (fault ≡ RingFault.Memory)) }
         ensures extent { D.extent dev.new ≡ D.extent dev.old }
         ensures faults { D.faults dev.old ≤ D.faults dev.new }

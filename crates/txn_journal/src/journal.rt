@@ -1,5 +1,5 @@
 //! A journal of transactions.
-ghost use Rattle.std.specs.Prelude.{◌≡◌, ◌≢◌, ◌↔◌, ◌+◌, ◌-◌, ◌<◌, ◌≤◌, ◌^◌, ◌++◌, ℕ, List, [], length, true, IsTrue, Ok, Err, OnOk, IfOk, IfErr, IsErrOf};
+ghost use Rattle.std.specs.Prelude.{◌≡◌, ◌≢◌, ◌↔◌, ◌+◌, ◌-◌, ◌<◌, ◌≤◌, ◌^◌, ◌++◌, ℕ, List, [], length, true, IsTrue, Ok, Err, OnOk, OnErr, IfOk, IfErr, IsErrOf};
 ghost use Rattle.fault_count.specs.Counted.{Counted};
 ghost use Rattle.fs_model.specs.declared.op.Op.{Op};
 ghost use Rattle.dev_api.specs.Run.{Keeps};
@@ -7,7 +7,7 @@ ghost use Rattle.ring_images.specs.Headers.{IsSize};
 ghost use Rattle.ring_images.specs.Held.{IsSound};
 ghost use Rattle.ring_journal.specs.State.{free_of};
 ghost use Rattle.txn_journal.specs.Mount.{mounted, new_contents};
-ghost use Rattle.txn_journal.specs.History.{History, new_history, end_of, more, LeavesPrefix};
+ghost use Rattle.txn_journal.specs.History.{History, new_history, NewCame, end_of, more, LeavesPrefix};
 ghost use Rattle.txn_journal.specs.Held.{Holds, Spell, AreShort, needs, last_of, contents_of, freshly, with_more};
 
 use crate::replay::replay;
@@ -76,13 +76,15 @@ impl Journal {
         self.ring.last_seq()
     }
 
-    /// Makes a journal without transactions over the whole device.
+    /// Makes a journal without transactions over the whole device. After an `Err` none was there.
     pub fn make<D: Device>(dev: &mut D) -> Result<(), MakeFault>
         ensures size { (n : ℕ) → IsErrOf result (MakeFault.DeviceSize n) ↔ ((n ≡ D.extent dev.old) × (IsSize (D.extent dev.old) → ⊥)) }
         ensures untouched { (IsSize (D.extent dev.old) → ⊥) → dev.new ≡ dev.old }
         ensures reads { D.tells ≡ true → OnOk result (mounted (D.disk dev.new).reads ≡ Ok (new_contents (D.extent dev.old))) }
         ensures sound { D.tells ≡ true → OnOk result (IsSound (D.disk dev.new) (D.disk dev.new).reads) }
         ensures left { D.tells ≡ true → OnOk result (LeavesPrefix new_history 0 (D.disk dev.new)) }
+        ensures came { D.tells ≡ true → OnOk result (NewCame (D.extent dev.old) (D.past dev.old) (D.past dev.new)) }
+        ensures unmade { D.tells ≡ true → OnErr result (NewCame (D.extent dev.old) (D.past dev.old) (D.past dev.new) → ⊥) }
         ensures extent { D.extent dev.new ≡ D.extent dev.old }
         ensures faults { D.faults dev.old ≤ D.faults dev.new }
         ensures cause { IsErrOf result MakeFault.Device → Counted (D.faults dev.old) (D.faults dev.new) }

@@ -17,8 +17,8 @@ use ring_journal::{Ring, RingFault};
 use std::alloc::{AllocError, Global};
 use txn_codec::{CodecFault, decode_txn};
 
-// Applies operations in turn.
-fn apply_ops(objects: &mut PlainObjects, ops: &[Op]) -> Result<(), AllocError>
+/// Applies operations in turn. After an `Err` the first of them were applied.
+pub fn apply_ops(objects: &mut PlainObjects, ops: &[Op]) -> Result<(), AllocError>
     requires { AllByRecursion IsWithinLimits ops.now }
     ensures { OnOk result (objects.new ≡ fold_ops objects.old ops.now) }
 {

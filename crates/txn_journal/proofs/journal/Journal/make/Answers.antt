@@ -1,5 +1,6 @@
 use Rattle.std.proofs.Common.{subst, refl}
 use Rattle.ring_images.specs.Headers.{IsSize}
+use Rattle.ring_journal.specs.Came.{came_none}
 use Rattle.txn_journal.specs.Mount.{no_fsid}
 use Rattle.txn_journal.proofs.Left.{settled_sound, made_reads, made_leaves}
 use Rattle.txn_journal.proofs.journal.Journal.make.Goals as goal
@@ -15,3 +16,6 @@ returns-in-Ok-clause-sound g c = λ told. settled_sound _ _ (c.in-Ok.ensures.mad
 
 pub returns-in-Ok-clause-left : goal.returns-in-Ok-clause-left
 returns-in-Ok-clause-left g c = λ told. made_leaves _ _ (c.in-Ok.ensures.left told)
+
+pub returns-then-not-is_size-clause-unmade : goal.returns-then-not-is_size-clause-unmade
+returns-then-not-is_size-clause-unmade g c = λ told came. absurd (came_none _ _ _ refl came)
