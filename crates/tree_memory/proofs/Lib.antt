@@ -10,6 +10,7 @@ pub mod Keeps
 pub mod Lefts
 pub mod Listings
 pub mod Lists
+pub mod Oldests
 pub mod Orders
 pub mod Pushes
 pub mod Readings

@@ -60,7 +60,7 @@ module _ (origin store now image : Store) (log : List Call) (synced : Bool) (i :
     pub followed_suits : suits (count_of now) c.event ≡ true
     followed_suits = both.0
 
-    ran_to : at_call origin log (i + 1) ≡ run c.event (settle c.synced (at_call origin log i))
+    pub ran_to : at_call origin log (i + 1) ≡ run c.event (settle c.synced (at_call origin log i))
     ran_to =
         ap (λ (l : List Call). (replay l (start (tree_of origin))).now) next ∙ ap (λ (s : State). s.now) (replay_push (take i log) c (start (tree_of origin)))
         ∙ ap (run c.event) (flushed c.synced (replay (take i log) (start (tree_of origin))))
@@ -86,10 +86,14 @@ module _ (origin store now image : Store) (log : List Call) (synced : Bool) (i :
   pub followed_count : length log ≡ i → count_of now ≡ count_of store
   followed_count e = so_far.count ∙ ap (nodes_after (count_of origin)) (take_all i log (omega (arith, e))) ∙ tied.count
 
+  pub followed_last : length log ≡ i → settle synced (at_call origin log i) ≡ (state origin log synced).now
+  followed_last e = ap (settle synced) (followed_end e) ∙ sym (flushed synced (replay log (start (tree_of origin))))
+
+  pub followed_snaps : (settle synced (at_call origin log i)).tree.snap ≡ (tree_of now).snap
+  followed_snaps = ap (λ (t : Tree). t.snap) (settle_tree synced (at_call origin log i) ∙ so_far.reads)
+
   -- at the end, with the snapshots as they are
   pub followed_left : length log ≡ i → (left : Store) → IsLeft (settle synced (at_call origin log i)) left → IsImage (state origin log synced).now (record (tree_of left) { snap = (tree_of now).snap })
   followed_left e left is =
-      let last : settle synced (at_call origin log i) ≡ (state origin log synced).now = ap (settle synced) (followed_end e) ∙ sym (flushed synced (replay log (start (tree_of origin)))) in
-      let snaps : (settle synced (at_call origin log i)).tree.snap ≡ (tree_of now).snap = ap (λ (t : Tree). t.snap) (settle_tree synced (at_call origin log i) ∙ so_far.reads) in
-      subst (λ (h : History). IsImage h (record (tree_of left) { snap = (tree_of now).snap })) last
-      (subst (λ (f : ℕ → Option Content). IsImage (settle synced (at_call origin log i)) (record (tree_of left) { snap = f })) snaps is)
+      subst (λ (h : History). IsImage h (record (tree_of left) { snap = (tree_of now).snap })) (followed_last e)
+      (subst (λ (f : ℕ → Option Content). IsImage (settle synced (at_call origin log i)) (record (tree_of left) { snap = f })) followed_snaps is)

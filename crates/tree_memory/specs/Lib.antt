@@ -8,6 +8,7 @@ pub mod Log
 pub mod Mixes
 pub mod Names
 pub mod Nodes
+pub mod Oldest
 pub mod Paths
 pub mod Seen
 pub mod Snaps

@@ -7,6 +7,7 @@ ghost use Rattle.tree_memory.specs.Nodes.{node_of};
 ghost use Rattle.tree_memory.specs.Log.{run, start, adds, suits};
 ghost use Rattle.tree_memory.specs.Told.{tree_of, count_of};
 ghost use Rattle.tree_memory.specs.Leaves.{settle, IsLeft};
+ghost use Rattle.tree_memory.specs.Oldest.{oldest, IsOldest};
 ghost use Rattle.tree_memory.specs.Tells.{state_of, history_of, plan_of, disk_of};
 
 use crate::event::Event;
@@ -26,6 +27,7 @@ impl MemoryTree {
         ensures image { IfOk result (λ m. (disk_of self.now).may (disk_of m).tree) }
         ensures stable { IfOk result (λ m. state_of m ≡ start (disk_of m).tree) }
         ensures as_it_reads { choice ≡ 0 → IfOk result (λ m. (disk_of m).tree ≡ (disk_of self.now).tree) }
+        ensures oldest { choice ≡ 1 → IfOk result (λ m. (disk_of m).tree ≡ oldest (history_of self.now)) }
         ensures plan { IfOk result (λ m. plan_of m ≡ record { fail = fail.items; calls = 0; faults = 0 }) }
         ensures syncs { IfOk result (λ m. (disk_of m).syncs ≡ 0) }
         ensures looks { IfOk result (λ m. (disk_of m).looks ≡ 0) }
@@ -38,6 +40,7 @@ impl MemoryTree {
         ensures image { IfOk result (λ s. IsImage (history_of self.now) (tree_of s)) }
         ensures count { IfOk result (λ s. count_of s ≡ count_of self.now.store) }
         ensures as_it_reads { choice ≡ 0 → IfOk result (λ s. tree_of s ≡ (history_of self.now).tree) }
+        ensures oldest { choice ≡ 1 → IfOk result (λ s. tree_of s ≡ oldest (history_of self.now)) }
     {
         if choice == 0 {
             return self.store.copy();
@@ -49,6 +52,7 @@ impl MemoryTree {
     fn image(&self, choice: u64) -> Result<Store, AllocError>
         ensures image { IfOk result (λ s. IsImage (history_of self.now) (tree_of s)) }
         ensures count { IfOk result (λ s. count_of s ≡ count_of self.now.store) }
+        ensures oldest { choice ≡ 1 → IfOk result (λ s. tree_of s ≡ oldest (history_of self.now)) }
     {
         let mut chooser = Chooser::new(choice);
         let mut now = self.origin.copy()?;
@@ -69,6 +73,7 @@ fn flush(image: &mut Store, now: &Store, synced: bool) -> Result<(), AllocError>
     requires { count_of image.old ≡ count_of now.now }
     ensures image { OnOk result ((h : History) → h.tree ≡ tree_of now.now → IsLeft h image.old → IsLeft (settle synced h) image.new) }
     ensures count { OnOk result (count_of image.new ≡ count_of now.now) }
+    ensures oldest { OnOk result ((h : History) → h.tree ≡ tree_of now.now → IsOldest h image.old → IsOldest (settle synced h) image.new) }
 {
     if synced {
         *image = now.copy()?;
@@ -87,6 +92,8 @@ fn follow(
     requires count { count_of image.old + adds event.now ≡ count_of now.now }
     ensures image { OnOk result ((h : History) → (run event.now h).tree ≡ tree_of now.now → IsLeft h image.old → IsLeft (run event.now h) image.new) }
     ensures count { OnOk result (count_of image.new ≡ count_of now.now) }
+    ensures chooser { chooser.new.oldest ≡ chooser.old.oldest }
+    ensures oldest { chooser.old.oldest ≡ true → OnOk result ((h : History) → (run event.now h).tree ≡ tree_of now.now → IsOldest h image.old → IsOldest (run event.now h) image.new) }
 {
     match event {
         Event::Make { node, .. } => {
@@ -122,6 +129,8 @@ fn adopt_names(image: &mut Store, now: &Store) -> Result<(), AllocError>
 fn follow_names(image: &mut Store, now: &Store, chooser: &mut Chooser) -> Result<(), AllocError>
     ensures names { OnOk result ((names_at image.new.names ≡ names_at now.now.names) ⊎ (names_at image.new.names ≡ names_at image.old.names)) }
     ensures nodes { image.new.nodes ≡ image.old.nodes }
+    ensures chooser { chooser.new.oldest ≡ chooser.old.oldest }
+    ensures kept { chooser.old.oldest ≡ true → names_at image.new.names ≡ names_at image.old.names }
 {
     if chooser.takes() {
         return adopt_names(image, now);
@@ -142,6 +151,8 @@ fn follow_node(
     ensures names { image.new.names ≡ image.old.names }
     ensures count { count_of image.new ≡ count_of image.old }
     ensures mixed { OnOk result ((v : Version) × Mix (node_of image.old.nodes.items node) (node_of now.now.nodes.items node) v × (node_of image.new.nodes.items ≡ put (node_of image.old.nodes.items) node v)) }
+    ensures chooser { chooser.new.oldest ≡ chooser.old.oldest }
+    ensures kept { chooser.old.oldest ≡ true → node_of image.new.nodes.items ≡ node_of image.old.nodes.items }
 {
     let left = &mut image.nodes[node];
     left.mix(&now.nodes[node], change, chooser)

@@ -1,5 +1,5 @@
 // Nodes whose cells are each as they were or as they are now.
-ghost use Rattle.std.specs.Prelude.{◌≡◌, ◌⊎◌, ◌<◌, ◌≤◌, ℕ, length, slice_index, OnOk};
+ghost use Rattle.std.specs.Prelude.{◌≡◌, ◌⊎◌, ◌<◌, ◌≤◌, ◌==◌, ℕ, true, false, length, slice_index, OnOk};
 ghost use Rattle.tree_api.specs.Tree.{Mix};
 ghost use Rattle.tree_memory.specs.Nodes.{version};
 
@@ -16,7 +16,9 @@ pub struct Chooser {
 }
 
 impl Chooser {
-    pub fn new(choice: u64) -> Chooser {
+    pub fn new(choice: u64) -> Chooser
+        ensures { result.oldest ≡ (choice == 1) }
+    {
         Chooser {
             oldest: choice == 1,
             draws: Draws::new(choice),
@@ -24,13 +26,18 @@ impl Chooser {
     }
 
     /// Never, where the oldest is chosen, and drawn otherwise.
-    pub fn takes(&mut self) -> bool {
+    pub fn takes(&mut self) -> bool
+        ensures oldest { self.new.oldest ≡ self.old.oldest }
+        ensures never { self.old.oldest ≡ true → result ≡ false }
+    {
         let drawn = self.draws.draw() % 2 == 1;
         drawn && !self.oldest
     }
 
     fn byte(&mut self, old: u8, now: u8) -> u8
-        ensures { (result ≡ old) ⊎ (result ≡ now) }
+        ensures one { (result ≡ old) ⊎ (result ≡ now) }
+        ensures oldest { self.new.oldest ≡ self.old.oldest }
+        ensures kept { self.old.oldest ≡ true → result ≡ old }
     {
         if self.takes() { now } else { old }
     }
@@ -44,7 +51,9 @@ impl Node {
         change: &Change,
         chooser: &mut Chooser,
     ) -> Result<(), AllocError>
-        ensures { OnOk result (Mix (version self.old) (version now.now) (version self.new)) }
+        ensures mixed { OnOk result (Mix (version self.old) (version now.now) (version self.new)) }
+        ensures oldest { chooser.new.oldest ≡ chooser.old.oldest }
+        ensures kept { chooser.old.oldest ≡ true → version self.new ≡ version self.old }
     {
         match change {
             Change::Write { at, bytes } => {
@@ -63,7 +72,9 @@ impl Node {
         name: &Bytes,
         chooser: &mut Chooser,
     ) -> Result<(), AllocError>
-        ensures { OnOk result (Mix (version self.old) (version now.now) (version self.new)) }
+        ensures mixed { OnOk result (Mix (version self.old) (version now.now) (version self.new)) }
+        ensures oldest { chooser.new.oldest ≡ chooser.old.oldest }
+        ensures kept { chooser.old.oldest ≡ true → version self.new ≡ version self.old }
     {
         if !chooser.takes() {
             return Ok(());
@@ -88,6 +99,8 @@ fn mix_bytes(
 ) -> Result<(), AllocError>
     ensures len { OnOk result ((length bytes.new.items ≡ length bytes.old.items) ⊎ (length bytes.new.items ≡ length now.now)) }
     ensures byte { OnOk result ((i : ℕ) → i < length bytes.new.items → (slice_index bytes.new.items i ≡ slice_index bytes.old.items i) ⊎ (slice_index bytes.new.items i ≡ slice_index now.now i)) }
+    ensures oldest { chooser.new.oldest ≡ chooser.old.oldest }
+    ensures kept { chooser.old.oldest ≡ true → bytes.new.items ≡ bytes.old.items }
 {
     mix_len(bytes, now.len(), chooser)?;
     let end = end.min(bytes.len()).min(now.len());
@@ -98,6 +111,8 @@ fn mix_bytes(
 fn mix_len(bytes: &mut Vec<u8>, len: usize, chooser: &mut Chooser) -> Result<(), AllocError>
     ensures len { OnOk result ((length bytes.new.items ≡ length bytes.old.items) ⊎ (length bytes.new.items ≡ len)) }
     ensures byte { OnOk result ((i : ℕ) → i < length bytes.new.items → slice_index bytes.new.items i ≡ slice_index bytes.old.items i) }
+    ensures oldest { chooser.new.oldest ≡ chooser.old.oldest }
+    ensures kept { chooser.old.oldest ≡ true → bytes.new.items ≡ bytes.old.items }
 {
     if !chooser.takes() {
         return Ok(());
@@ -110,7 +125,9 @@ fn mix_len(bytes: &mut Vec<u8>, len: usize, chooser: &mut Chooser) -> Result<(),
 fn mix_slice(bytes: &mut [u8], now: &[u8], first: usize, end: usize, chooser: &mut Chooser)
     requires in_bytes { end ≤ length bytes.old }
     requires in_now { end ≤ length now.now }
-    ensures { (i : ℕ) → (slice_index bytes.new i ≡ slice_index bytes.old i) ⊎ (slice_index bytes.new i ≡ slice_index now.now i) }
+    ensures byte { (i : ℕ) → (slice_index bytes.new i ≡ slice_index bytes.old i) ⊎ (slice_index bytes.new i ≡ slice_index now.now i) }
+    ensures oldest { chooser.new.oldest ≡ chooser.old.oldest }
+    ensures kept { chooser.old.oldest ≡ true → bytes.new ≡ bytes.old }
 {
     for i in first..end {
         bytes[i] = chooser.byte(bytes[i], now[i]);
