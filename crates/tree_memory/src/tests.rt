@@ -1,12 +1,12 @@
-ghost use Rattle.std.specs.Prelude.{◌≡◌, None, IfOk, IfSome};
-ghost use Rattle.tree_api.specs.Tree.{HasParent};
+ghost use Rattle.std.specs.Prelude.{◌≡◌, ◌≢◌, true, false, None, IfOk, IfSome};
+ghost use Rattle.tree_api.specs.Tree.{HasParent, IsEmptyDir};
 ghost use Rattle.tree_memory.specs.Tells.{disk_of};
 ghost use Rattle.tree_memory.specs.Seen.{IsSeen, IsRoom};
 
 use crate::MemoryTree;
 use std::alloc::Global;
 use std::process::Abort;
-use tree_api::{FileTree, Kind, Stat, TreeError, TreePath, is_step};
+use tree_api::{Failed, FileTree, Kind, Stat, TreeError, TreePath, is_step};
 
 // What is of which kind at a path.
 fn seen(tree: &mut MemoryTree, path: &TreePath) -> Result<Option<Kind>, TreeError>
@@ -149,6 +149,121 @@ fn entries(tree: &mut MemoryTree, dir: &TreePath) -> Result<usize, TreeError> {
     }
 }
 
+// What stands at this step in the root.
+fn path(alloc: Global, step: &[u8]) -> Result<TreePath, TreeError> {
+    if !is_step(step) {
+        return Err(TreeError::Memory);
+    }
+    Ok(TreePath::root(alloc).join(step)?)
+}
+
+fn is_empty(tree: &mut MemoryTree, dir: &TreePath) -> Result<bool, TreeError>
+    ensures { IfOk result (λ b. b ≡ true → IsEmptyDir (disk_of tree.new).tree dir.now) }
+{
+    let Some(Kind::Dir) = seen(tree, dir)? else {
+        return Ok(false);
+    };
+    let entries = tree.list(dir)?;
+    Ok(entries.is_empty())
+}
+
+fn remove_folder(tree: &mut MemoryTree, dir: &TreePath) -> Result<(), TreeError> {
+    if dir.steps() == 0 || !is_empty(tree, dir)? {
+        return Err(TreeError::Memory);
+    }
+    tree.remove_dir(dir)
+}
+
+// A file moves to a free place that is no deeper.
+fn rename(
+    tree: &mut MemoryTree,
+    from: &TreePath,
+    dir: &TreePath,
+    step: &[u8],
+) -> Result<TreePath, TreeError> {
+    let Some(to) = room(tree, dir, step)? else {
+        return Err(TreeError::Memory);
+    };
+    if to.steps() > from.steps() {
+        return Err(TreeError::Memory);
+    }
+    match seen(tree, from)? {
+        Some(Kind::File) => {
+            tree.rename(from, &to)?;
+            Ok(to)
+        }
+        _ => Err(TreeError::Memory),
+    }
+}
+
+// Whether there is a snapshot of this number.
+fn kept(tree: &mut MemoryTree, seq: u64) -> Result<bool, TreeError>
+    ensures yes { IfOk result (λ b. b ≡ true → (disk_of tree.new).tree.snap seq ≢ None) }
+    ensures no { IfOk result (λ b. b ≡ false → (disk_of tree.new).tree.snap seq ≡ None) }
+{
+    Ok(tree.snapshots()?.contains(&seq))
+}
+
+fn snapshot(tree: &mut MemoryTree, seq: u64) -> Result<(), TreeError> {
+    if kept(tree, seq)? {
+        return Err(TreeError::Memory);
+    }
+    tree.snapshot(seq)
+}
+
+fn rollback(tree: &mut MemoryTree, seq: u64) -> Result<(), TreeError> {
+    if !kept(tree, seq)? {
+        return Err(TreeError::Memory);
+    }
+    tree.rollback(seq)
+}
+
+fn drop_snapshot(tree: &mut MemoryTree, seq: u64) -> Result<(), TreeError> {
+    if !kept(tree, seq)? {
+        return Err(TreeError::Memory);
+    }
+    tree.drop_snapshot(seq)
+}
+
+fn sync_all(tree: &mut MemoryTree) -> Result<(), TreeError> {
+    match tree.sync_all() {
+        Ok(()) => Ok(()),
+        Err(Failed) => Err(TreeError::Refused),
+    }
+}
+
+// The first of these bytes that a file holds, or their number.
+fn which(
+    rt: &impl Abort,
+    tree: &mut MemoryTree,
+    path: &TreePath,
+    wants: &[&[u8]],
+) -> Result<usize, TreeError> {
+    for (i, want) in wants.iter().enumerate() {
+        if holds(rt, tree, path, want)? {
+            return Ok(i);
+        }
+    }
+    Ok(wants.len())
+}
+
+// In each image a file holds one of these: for choice 0 the first, for choice 1 the last.
+fn check_images(
+    rt: &(impl Abort + AllocGlobal),
+    tree: &MemoryTree,
+    path: &TreePath,
+    wants: &[&[u8]],
+) -> Result<(), TreeError> {
+    for choice in 0..16 {
+        let mut left = tree.leave(choice, Vec::new(rt.alloc()))?;
+        let found = which(rt, &mut left, path, wants)?;
+        assert!(rt; found < wants.len(), "choice {choice}");
+        assert!(rt; choice != 0 || found == 0);
+        assert!(rt; choice != 1 || found == wants.len() - 1);
+    }
+    Ok(())
+}
+
 #[test]
 fn files_and_directories_are_made(rt: HostRuntime) -> Result<(), TreeError> {
     let alloc: Global = rt.alloc();
@@ -276,5 +391,211 @@ fn named_calls_are_refused(rt: HostRuntime) -> Result<(), TreeError> {
     assert!(rt; tree.sync_all().is_err());
     assert_eq!(rt; tree.calls(), 6);
     assert_eq!(rt; tree.snapshots()?.len(), 0);
+    Ok(())
+}
+
+// A folder, a file with two bytes and an attribute, and a snapshot of which a file is gone. One call is refused.
+fn prepared(alloc: Global, refused: u64) -> Result<MemoryTree, TreeError> {
+    let mut tree = MemoryTree::new(alloc, vec![in alloc; refused]?)?;
+    let root = TreePath::root(alloc);
+    folder(&mut tree, &root, b"d")?;
+    let a = file(&mut tree, &root, b"a")?;
+    write(&mut tree, &a, 0, b"ab")?;
+    set(&mut tree, &a, b"k", b"v")?;
+    let current = folder(&mut tree, &root, b"current")?;
+    let gone = file(&mut tree, &current, b"f")?;
+    snapshot(&mut tree, 1)?;
+    remove(&mut tree, &gone)?;
+    Ok(tree)
+}
+
+fn is_prepared(rt: &impl Abort, alloc: Global, tree: &mut MemoryTree) -> Result<bool, TreeError> {
+    let a = path(alloc, b"a")?;
+    if entries(tree, &TreePath::root(alloc))? != 3 || !holds(rt, tree, &a, b"ab")? {
+        return Ok(false);
+    }
+    if !value(tree, &a, b"k", b"v")? || !is_empty(tree, &path(alloc, b"d")?)? {
+        return Ok(false);
+    }
+    if kept(tree, 2)? || !kept(tree, 1)? {
+        return Ok(false);
+    }
+    is_empty(tree, &path(alloc, b"current")?)
+}
+
+// One of 21 calls, after the looks that it stands on.
+fn act(rt: &impl Abort, alloc: Global, tree: &mut MemoryTree, call: u64) -> Result<(), TreeError> {
+    let a = path(alloc, b"a")?;
+    match call {
+        0..=5 => read(rt, alloc, tree, &a, call),
+        6 => sync(tree, &a),
+        7 => tree.sync_names(),
+        8 => sync_all(tree),
+        9..=12 => change_file(tree, &a, call),
+        13..=17 => change_names(alloc, tree, &a, call),
+        18 => snapshot(tree, 2),
+        19 => rollback(tree, 1),
+        _ => drop_snapshot(tree, 1),
+    }
+}
+
+fn read(
+    rt: &impl Abort,
+    alloc: Global,
+    tree: &mut MemoryTree,
+    a: &TreePath,
+    call: u64,
+) -> Result<(), TreeError> {
+    match call {
+        0 => assert!(rt; seen(tree, a)?.is_some()),
+        1 => assert_eq!(rt; entries(tree, &TreePath::root(alloc))?, 3),
+        2 => assert!(rt; holds(rt, tree, a, b"ab")?),
+        3 => assert!(rt; value(tree, a, b"k", b"v")?),
+        4 => assert_eq!(rt; attributes(tree, a)?, 1),
+        _ => assert!(rt; kept(tree, 1)?),
+    }
+    Ok(())
+}
+
+fn change_file(tree: &mut MemoryTree, a: &TreePath, call: u64) -> Result<(), TreeError> {
+    match call {
+        9 => write(tree, a, 1, b"x"),
+        10 => cut(tree, a, 1),
+        11 => set(tree, a, b"k", b"w"),
+        _ => unset(tree, a, b"k"),
+    }
+}
+
+fn change_names(
+    alloc: Global,
+    tree: &mut MemoryTree,
+    a: &TreePath,
+    call: u64,
+) -> Result<(), TreeError> {
+    let root = TreePath::root(alloc);
+    match call {
+        13 => folder(tree, &root, b"e")?,
+        14 => file(tree, &root, b"e")?,
+        15 => rename(tree, a, &root, b"b")?,
+        16 => return remove(tree, a),
+        _ => return remove_folder(tree, &path(alloc, b"d")?),
+    };
+    Ok(())
+}
+
+// A refused call is counted, and changes nothing that is read. The same call is answered afterwards.
+#[test]
+fn each_call_is_refused_where_it_is_named(rt: HostRuntime) -> Result<(), TreeError> {
+    let alloc: Global = rt.alloc();
+    for call in 0..21 {
+        let mut tree = prepared(alloc, 0)?;
+        act(&rt, alloc, &mut tree, call)?;
+        let last = tree.calls();
+        let same = is_prepared(&rt, alloc, &mut tree)?;
+        assert_eq!(rt; same, call < 9, "call {call}");
+        let mut tree = prepared(alloc, last)?;
+        let refused = act(&rt, alloc, &mut tree, call);
+        assert_eq!(rt; refused, Err(TreeError::Refused), "call {call}");
+        assert_eq!(rt; tree.calls(), last);
+        assert_eq!(rt; tree.plan.faults(), 1);
+        assert!(rt; is_prepared(&rt, alloc, &mut tree)?, "call {call}");
+        act(&rt, alloc, &mut tree, call)?;
+        let same = is_prepared(&rt, alloc, &mut tree)?;
+        assert_eq!(rt; same, call < 9, "call {call}");
+    }
+    Ok(())
+}
+
+#[test]
+fn a_crash_leaves_an_old_or_new_length(rt: HostRuntime) -> Result<(), TreeError> {
+    let alloc: Global = rt.alloc();
+    let mut tree = MemoryTree::new(alloc, Vec::new(alloc))?;
+    let root = TreePath::root(alloc);
+    let a = file(&mut tree, &root, b"a")?;
+    write(&mut tree, &a, 0, b"ab")?;
+    tree.sync_names()?;
+    let made = [b"ab".as_slice(), b"a\0", b"\0b", b"\0\0", b""];
+    check_images(&rt, &tree, &a, &made)?;
+    sync(&mut tree, &a)?;
+    write(&mut tree, &a, 2, b"cd")?;
+    let longer = [b"abcd".as_slice(), b"abc\0", b"ab\0d", b"ab\0\0", b"ab"];
+    check_images(&rt, &tree, &a, &longer)?;
+    sync(&mut tree, &a)?;
+    check_images(&rt, &tree, &a, &[b"abcd".as_slice()])?;
+    cut(&mut tree, &a, 2)?;
+    let shorter = [b"ab".as_slice(), b"ab\0\0", b"abc\0", b"ab\0d", b"abcd"];
+    check_images(&rt, &tree, &a, &shorter)?;
+    assert!(rt; tree.sync_all().is_ok());
+    check_images(&rt, &tree, &a, &[b"ab".as_slice()])
+}
+
+#[test]
+fn a_crash_leaves_old_or_new_attributes(rt: HostRuntime) -> Result<(), TreeError> {
+    let alloc: Global = rt.alloc();
+    let mut tree = MemoryTree::new(alloc, Vec::new(alloc))?;
+    let root = TreePath::root(alloc);
+    let a = file(&mut tree, &root, b"a")?;
+    set(&mut tree, &a, b"k", b"v")?;
+    sync(&mut tree, &a)?;
+    set(&mut tree, &a, b"k", b"w")?;
+    set(&mut tree, &a, b"j", b"x")?;
+    for choice in 0..16 {
+        let mut left = tree.leave(choice, Vec::new(alloc))?;
+        let new = value(&mut left, &a, b"k", b"w")?;
+        let old = value(&mut left, &a, b"k", b"v")?;
+        let added = value(&mut left, &a, b"j", b"x")?;
+        assert!(rt; new != old, "choice {choice}");
+        assert!(rt; attributes(&mut left, &a)? == if added { 2 } else { 1 });
+        assert!(rt; choice != 0 || (new && added));
+        assert!(rt; choice != 1 || (old && !added));
+    }
+    Ok(())
+}
+
+// After a rename a file stands at one of its two names, with old or new bytes.
+#[test]
+fn a_crash_leaves_a_file_at_one_of_its_names(rt: HostRuntime) -> Result<(), TreeError> {
+    let alloc: Global = rt.alloc();
+    let mut tree = MemoryTree::new(alloc, Vec::new(alloc))?;
+    let root = TreePath::root(alloc);
+    let d = folder(&mut tree, &root, b"d")?;
+    let old = file(&mut tree, &d, b"a")?;
+    write(&mut tree, &old, 0, b"xy")?;
+    sync(&mut tree, &old)?;
+    let new = rename(&mut tree, &old, &root, b"b")?;
+    write(&mut tree, &new, 1, b"z")?;
+    let wants = [b"xz".as_slice(), b"xy"];
+    for choice in 0..16 {
+        let mut left = tree.leave(choice, Vec::new(alloc))?;
+        let moved = which(&rt, &mut left, &new, &wants)?;
+        let stayed = which(&rt, &mut left, &old, &wants)?;
+        assert!(rt; (moved < 2) != (stayed < 2), "choice {choice}");
+        assert!(rt; choice != 0 || moved == 0);
+        assert!(rt; choice != 1 || stayed == 1);
+    }
+    sync(&mut tree, &new)?;
+    check_images(&rt, &tree, &new, &[b"xz".as_slice()])
+}
+
+#[test]
+fn a_crash_keeps_snapshots_and_what_a_rollback_brings(rt: HostRuntime) -> Result<(), TreeError> {
+    let alloc: Global = rt.alloc();
+    let mut tree = MemoryTree::new(alloc, Vec::new(alloc))?;
+    let root = TreePath::root(alloc);
+    let current = folder(&mut tree, &root, b"current")?;
+    let f = file(&mut tree, &current, b"f")?;
+    write(&mut tree, &f, 0, b"ab")?;
+    snapshot(&mut tree, 1)?;
+    cut(&mut tree, &f, 0)?;
+    remove(&mut tree, &f)?;
+    rollback(&mut tree, 1)?;
+    check_images(&rt, &tree, &f, &[b"ab".as_slice()])?;
+    for choice in 0..16 {
+        assert!(rt; kept(&mut tree.leave(choice, Vec::new(alloc))?, 1)?);
+    }
+    drop_snapshot(&mut tree, 1)?;
+    for choice in 0..16 {
+        assert!(rt; !kept(&mut tree.leave(choice, Vec::new(alloc))?, 1)?);
+    }
     Ok(())
 }
