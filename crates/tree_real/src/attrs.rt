@@ -1,4 +1,8 @@
 // Attributes, each a file of its value.
+ghost use Rattle.std.specs.Prelude.{◌≡◌, ◌≢◌, ◌++◌, List, ℕ, Ok, IfOk, IsErrOf};
+ghost use Rattle.hex.specs.Hex.{decode_of};
+ghost use Rattle.tree_api.specs.declared.tree.TreeError.TheVariants.{Refused};
+
 use crate::disk;
 use crate::layout::{Layout, above, joined};
 use crate::nodes::{cut_off, fault};
@@ -102,7 +106,10 @@ fn read_folder<R: Files + AllocGlobal + Clone + Drop>(
 }
 
 // These bytes, followed by those that the digits spell.
-fn longer(alloc: Global, begin: &[u8], digits: &str) -> Result<Vec<u8>, TreeError> {
+fn longer(alloc: Global, begin: &[u8], digits: &str) -> Result<Vec<u8>, TreeError>
+    ensures bytes { IfOk result (λ bytes. (more : List ℕ) × (decode_of digits.now ≡ Ok more) × (bytes.items ≡ begin.now ++ more)) }
+    ensures refused { IsErrOf result Refused → (more : List ℕ) → decode_of digits.now ≢ Ok more }
+{
     let mut bytes = Vec::from_slice(alloc, begin)?;
     match hex::decode(alloc, digits) {
         Ok(more) => bytes.extend_from_slice(&more)?,

@@ -1,3 +1,8 @@
+ghost use Rattle.std.specs.Prelude.{◌≡◌, ◌≢◌, ◌++◌, ℕ, List, codes, All, IfOk, OnOk, IsErrOf, MatchOption, string_bytes};
+ghost use Rattle.tree_api.specs.declared.tree.TreeError.TheVariants.{Refused};
+ghost use Rattle.hex.specs.Hex.{encode_lower};
+ghost use Rattle.tree_real.specs.Places.{joined, IsAbove, IsFileName, node_at, side_at, attrs_at, attr_file};
+
 use std::alloc::{AllocError, Global};
 use tree_api::{TreeError, TreePath};
 
@@ -22,96 +27,149 @@ pub struct Place {
 }
 
 impl Layout {
-    pub fn new(alloc: Global, root: &str) -> Result<Layout, AllocError> {
+    pub fn new(alloc: Global, root: &str) -> Result<Layout, AllocError>
+        ensures { IfOk result (λ l. string_bytes l.root ≡ root.now) }
+    {
         Ok(Layout {
             alloc,
             root: String::from_str(alloc, root)?,
         })
     }
 
-    pub fn root(&self) -> &str {
+    pub fn root(&self) -> &str
+        ensures { result.now ≡ string_bytes self.now.root }
+    {
         &self.root
     }
 
     /// What follows the root in this path.
-    pub fn inside<'a>(&self, path: &'a str) -> &'a str {
+    pub fn inside<'a>(&self, path: &'a str) -> &'a str
+        ensures below { (rest : List ℕ) → path.now ≡ string_bytes self.now.root ++ rest → result.now ≡ rest }
+        ensures elsewhere { ((rest : List ℕ) → path.now ≢ string_bytes self.now.root ++ rest) → result.now ≡ path.now }
+    {
         path.strip_prefix(self.root.as_str()).unwrap_or(path)
     }
 
     /// The root followed by this.
-    pub fn outside(&self, inside: &str) -> Result<String, AllocError> {
+    pub fn outside(&self, inside: &str) -> Result<String, AllocError>
+        ensures { IfOk result (λ path. string_bytes path ≡ string_bytes self.now.root ++ inside.now) }
+    {
         let mut path = String::from_str(self.alloc, &self.root)?;
         path.push_str(inside)?;
         Ok(path)
     }
 
     /// What stands at this path below the root.
-    pub fn below(&self, path: &str) -> Result<String, AllocError> {
+    pub fn below(&self, path: &str) -> Result<String, AllocError>
+        ensures { IfOk result (λ all. string_bytes all ≡ joined (string_bytes self.now.root) path.now) }
+    {
         joined(self.alloc, &self.root, path)
     }
 
     /// Where the node at this path lies. `.` and `..` are no names for a file here, and so refused.
-    pub fn place(&self, path: &TreePath) -> Result<Place, TreeError> {
+    pub fn place(&self, path: &TreePath) -> Result<Place, TreeError>
+        ensures node { IfOk result (λ place. string_bytes place.node ≡ node_at (string_bytes self.now.root) path.now) }
+        ensures side { IfOk result (λ place. string_bytes place.side ≡ side_at (string_bytes self.now.root) path.now) }
+        ensures names { OnOk result (All IsFileName path.now) }
+        ensures refused { IsErrOf result Refused → ¬ (All IsFileName path.now) }
+    {
         let mut node = self.below("tree")?;
         let mut side = self.below("side")?;
         for i in 0..path.steps() {
             let Some(step) = file_name(path.step(i)) else {
                 return Err(TreeError::Refused);
             };
-            node.push('/')?;
-            node.push_str(step)?;
-            side.push_str("/c/")?;
-            side.push_str(step)?;
+            push_step(&mut node, "/", step)?;
+            push_step(&mut side, "/c/", step)?;
         }
         Ok(Place { node, side })
     }
 
     /// The folder of a node's attributes.
-    pub fn attrs(&self, path: &TreePath) -> Result<String, TreeError> {
+    pub fn attrs(&self, path: &TreePath) -> Result<String, TreeError>
+        ensures path { IfOk result (λ dir. string_bytes dir ≡ attrs_at (string_bytes self.now.root) path.now) }
+        ensures names { OnOk result (All IsFileName path.now) }
+        ensures refused { IsErrOf result Refused → ¬ (All IsFileName path.now) }
+    {
         let place = self.place(path)?;
         Ok(joined(self.alloc, &place.side, "a")?)
     }
 
     /// The file of an attribute: `_` and the name in hexadecimal digits. Of a long name, folders of `-` and 100 bytes
     /// each come first.
-    pub fn attr(&self, path: &TreePath, name: &[u8]) -> Result<String, TreeError> {
+    pub fn attr(&self, path: &TreePath, name: &[u8]) -> Result<String, TreeError>
+        ensures path { IfOk result (λ file. string_bytes file ≡ attrs_at (string_bytes self.now.root) path.now ++ attr_file name.now) }
+        ensures names { OnOk result (All IsFileName path.now) }
+        ensures refused { IsErrOf result Refused → ¬ (All IsFileName path.now) }
+    {
         let mut file = self.attrs(path)?;
-        let last = name.len().saturating_sub(1) / PIECE * PIECE;
-        for piece in name[..last].chunks(PIECE) {
-            file.push_str("/-")?;
-            file.push_str(&hex::encode(self.alloc, piece)?)?;
-        }
-        file.push_str("/_")?;
-        file.push_str(&hex::encode(self.alloc, &name[last..])?)?;
+        self.push_name(&mut file, name)?;
         Ok(file)
     }
 
+    // The file of an attribute, behind its folder.
+    fn push_name(&self, file: &mut String, name: &[u8]) -> Result<(), AllocError>
+        ensures { OnOk result (string_bytes file.new ≡ string_bytes file.old ++ attr_file name.now) }
+    {
+        let count = name.len().saturating_sub(1) / PIECE;
+        for k in 0..count {
+            self.push_digits(file, "/-", &name[k * PIECE..k * PIECE + PIECE])?;
+        }
+        self.push_digits(file, "/_", &name[count * PIECE..])
+    }
+
+    // These bytes as digits, behind a path.
+    fn push_digits(&self, file: &mut String, begin: &str, bytes: &[u8]) -> Result<(), AllocError>
+        ensures { OnOk result (string_bytes file.new ≡ string_bytes file.old ++ (begin.now ++ encode_lower bytes.now)) }
+    {
+        let digits = hex::encode(self.alloc, bytes)?;
+        push_step(file, begin, &digits)
+    }
+
     /// A file beside this one.
-    pub fn beside(&self, file: &str) -> Result<String, AllocError> {
+    pub fn beside(&self, file: &str) -> Result<String, AllocError>
+        ensures { IfOk result (λ path. (dir : List ℕ) × IsAbove file.now dir × (string_bytes path ≡ joined dir (codes "new"))) }
+    {
         joined(self.alloc, above(file), "new")
     }
 }
 
+// A path with these two behind it.
+fn push_step(path: &mut String, begin: &str, step: &str) -> Result<(), AllocError>
+    ensures { OnOk result (string_bytes path.new ≡ string_bytes path.old ++ (begin.now ++ step.now)) }
+{
+    path.push_str(begin)?;
+    path.push_str(step)
+}
+
 /// This path with one more name.
-pub fn joined(alloc: Global, dir: &str, name: &str) -> Result<String, AllocError> {
+pub fn joined(alloc: Global, dir: &str, name: &str) -> Result<String, AllocError>
+    ensures { IfOk result (λ path. string_bytes path ≡ joined dir.now name.now) }
+{
     let mut path = String::from_str(alloc, dir)?;
-    path.push('/')?;
-    path.push_str(name)?;
+    push_step(&mut path, "/", name)?;
     Ok(path)
 }
 
 /// The folder in which this stands.
-pub fn above(path: &str) -> &str {
-    match path.rsplit_once('/') {
+pub fn above(path: &str) -> &str
+    ensures { IsAbove path.now result.now }
+{
+    match path.rsplit_once("/") {
         Some((dir, _)) => dir,
         None => ".",
     }
 }
 
 // A step as the name of a file.
-fn file_name(step: &[u8]) -> Option<&str> {
-    match str::from_utf8(step) {
-        Ok(name) if name != "." && name != ".." => Some(name),
-        _ => None,
+fn file_name(step: &[u8]) -> Option<&str>
+    ensures { MatchOption result (¬ (IsFileName step.now)) (λ name. (name.now ≡ step.now) × IsFileName step.now) }
+{
+    let Ok(name) = str::from_utf8(step) else {
+        return None;
+    };
+    if name == "." || name == ".." {
+        return None;
     }
+    Some(name)
 }

@@ -2,6 +2,9 @@
 //
 // The name and the side folder are moved one after the other. So a note is made before: where the move was cut off, the
 // side folder follows when the tree is opened again.
+ghost use Rattle.std.specs.Prelude.{◌≡◌, ◌++◌, List, [], ℕ, if◌then◌else◌, codes, IfOk, OnOk, string_bytes};
+ghost use Rattle.tree_real.specs.Places.{joined, note_text};
+
 use crate::disk;
 use crate::layout::{Layout, Place, above};
 use crate::nodes::{cut_off, fault};
@@ -26,22 +29,51 @@ impl Note {
         from: &Place,
         to: &Place,
         has_side: bool,
-    ) -> Result<Note, AllocError> {
-        let side = if has_side {
-            layout.inside(&from.side)
-        } else {
-            ""
-        };
+    ) -> Result<Note, AllocError>
+        ensures file { IfOk result (λ note. string_bytes note.file ≡ joined (string_bytes layout.now.root) (codes "move")) }
+        ensures new { IfOk result (λ note. string_bytes note.new ≡ joined (string_bytes layout.now.root) (codes "move.new")) }
+        ensures text { (node side aim : List ℕ) → string_bytes from.now.node ≡ string_bytes layout.now.root ++ node → string_bytes from.now.side ≡ string_bytes layout.now.root ++ side → string_bytes to.now.side ≡ string_bytes layout.now.root ++ aim → IfOk result (λ note. string_bytes note.text ≡ note_text node (if has_side then side else []) aim) }
+    {
+        let side = side_inside(layout, from, has_side);
         Ok(Note {
             file: layout.below("move")?,
             new: layout.below("move.new")?,
-            text: format!(in alloc;
-                "{}\n{}\n{}\n",
+            text: note_text(
+                alloc,
                 layout.inside(&from.node),
                 side,
-                layout.inside(&to.side)
+                layout.inside(&to.side),
             )?,
         })
+    }
+}
+
+// The lines of a note.
+fn note_text(alloc: Global, node: &str, side: &str, to: &str) -> Result<String, AllocError>
+    ensures { IfOk result (λ text. string_bytes text ≡ note_text node.now side.now to.now) }
+{
+    let mut text = String::new(alloc);
+    push_line(&mut text, node)?;
+    push_line(&mut text, side)?;
+    push_line(&mut text, to)?;
+    Ok(text)
+}
+
+fn push_line(text: &mut String, line: &str) -> Result<(), AllocError>
+    ensures { OnOk result (string_bytes text.new ≡ string_bytes text.old ++ (line.now ++ codes "\n")) }
+{
+    text.push_str(line)?;
+    text.push_str("\n")
+}
+
+// The side folder as a note has it, or nothing where there is none.
+fn side_inside<'a>(layout: &Layout, place: &'a Place, has_side: bool) -> &'a str
+    ensures { (side : List ℕ) → string_bytes place.now.side ≡ string_bytes layout.now.root ++ side → result.now ≡ (if has_side then side else []) }
+{
+    if has_side {
+        layout.inside(&place.side)
+    } else {
+        ""
     }
 }
 

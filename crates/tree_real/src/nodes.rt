@@ -1,5 +1,7 @@
 // Nodes: what they are and hold, and how they come and go.
-ghost use Rattle.std.specs.Prelude.{◌≤◌, length, IfOk};
+ghost use Rattle.std.specs.Prelude.{◌≡◌, ◌≢◌, ◌≤◌, length, IfOk};
+ghost use Rattle.std.specs.IoError.{error_kind};
+ghost use Rattle.tree_api.specs.declared.tree.TreeError.TheVariants.{Memory, Refused};
 
 use crate::disk;
 use crate::layout::{Layout, above};
@@ -11,7 +13,10 @@ use std::{fs, io};
 use tree_api::{Bytes, Entry, Kind, Stat, TreeError, TreePath, is_step};
 
 /// Why a reading gave up.
-pub fn fault(error: io::Error) -> TreeError {
+pub fn fault(error: io::Error) -> TreeError
+    ensures memory { error_kind error ≡ ErrorKind.OutOfMemory → result ≡ Memory }
+    ensures refused { error_kind error ≢ ErrorKind.OutOfMemory → result ≡ Refused }
+{
     match error.kind() {
         ErrorKind::OutOfMemory => TreeError::Memory,
         _ => TreeError::Refused,
@@ -19,7 +24,9 @@ pub fn fault(error: io::Error) -> TreeError {
 }
 
 /// Why a change gave up that may have been made in part. Want of memory counts as refused there.
-pub fn cut_off(_: io::Error) -> TreeError {
+pub fn cut_off(_: io::Error) -> TreeError
+    ensures { result ≡ Refused }
+{
     TreeError::Refused
 }
 
