@@ -8,7 +8,6 @@ use Rattle.std.specs.declared.cmp.Ordering.TheVariants.{Less}
 use Rattle.std.specs.Ordering.{is_eq}
 use Rattle.std.proofs.lemmas.List.Elements.{All-contains_itself, All-weaker}
 use Rattle.std.proofs.lemmas.Map.Views.{btree_map_get_iff}
-use Rattle.std.proofs.lemmas.List.{append-nil}
 use Rattle.tree_api.specs.Tree.{Path}
 use Rattle.tree_memory.specs.Paths.{path_cmp, path_cmp_total, same_path, strip}
 use Rattle.tree_memory.specs.Names.{names_at, find_name, IsBelow, edited, edited_once}
@@ -87,13 +86,5 @@ pub below_some : (d : Path) (es : List (Path × ℕ)) (l new : List Name) (p k r
 below_some d es l new p k r n o so_far same is some grew =
     let there : strip d p ≡ Some r = ap (strip d) (sym same) ∙ sym is ∙ some in
     grew ∙ ap (λ (x : List Name). x ++ record { rest = r; node = n } ∷ []) so_far
-    ∙ ap (λ (x : Option Path). below_list d es ++ entry x n []) (sym there)
-    ∙ sym (below_append d es ((p, n) ∷ []))
-
-pub below_none : (d : Path) (es : List (Path × ℕ)) (l : List Name) (p k : Path) (n : ℕ) (o : Option Path) → l ≡ below_list d es → k ≡ p → o ≡ strip d k → o ≡ None
-    → l ≡ below_list d (es ++ (p, n) ∷ [])
-below_none d es l p k n o so_far same is none =
-    let there : strip d p ≡ None = ap (strip d) (sym same) ∙ sym is ∙ none in
-    so_far ∙ sym (append-nil (below_list d es))
     ∙ ap (λ (x : Option Path). below_list d es ++ entry x n []) (sym there)
     ∙ sym (below_append d es ((p, n) ∷ []))

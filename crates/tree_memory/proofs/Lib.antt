@@ -18,6 +18,7 @@ pub mod Renames
 pub mod Replays
 pub mod Rising
 pub mod Rolls
+pub mod Spans
 pub mod Stores
 pub mod Stripped
 pub mod Valids

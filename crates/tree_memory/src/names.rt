@@ -92,11 +92,14 @@ impl NameMap {
     pub fn below(&self, dir: &TreePath) -> Result<Vec<Name>, AllocError>
         ensures { IfOk result (λ names. IsBelow (names_at self.now) dir.now names.items) }
     {
+        let start = Place { path: dir.copy()? };
         let mut names = Vec::new(self.alloc);
-        for (place, node) in self.map.iter() {
-            if let Some(rest) = rest_of(self.alloc, dir, &place.path)? {
-                names.push(Name { rest, node: *node })?;
-            }
+        // They stand together, the directory first.
+        for (place, node) in self.map.range(start..) {
+            let Some(rest) = rest_of(self.alloc, dir, &place.path)? else {
+                return Ok(names);
+            };
+            names.push(Name { rest, node: *node })?;
         }
         Ok(names)
     }
