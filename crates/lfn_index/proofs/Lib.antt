@@ -14,6 +14,7 @@ pub mod Placing
 pub mod Reading
 pub mod Removing
 pub mod Renewing
+pub mod Repeated
 pub mod Same
 pub mod Seen
 pub mod Shown
