@@ -61,26 +61,34 @@ pub fn names<R: Files + AllocGlobal + Clone + Drop>(
     layout: &Layout,
     path: &TreePath,
 ) -> Result<Vec<AttrName>, TreeError> {
-    let dir = layout.attrs(path)?;
-    let mut found = BTreeSet::new(rt.alloc());
-    let mut todo = Vec::new(rt.alloc());
-    if disk::look(rt, &dir).map_err(fault)?.is_some() {
-        todo.push(Folder {
-            path: dir,
-            begin: Vec::new(rt.alloc()),
-        })?;
+    let mut names = Vec::new(rt.alloc());
+    for bytes in found_below(rt, layout.attrs(path)?)? {
+        names.push(AttrName { bytes })?;
     }
+    Ok(names)
+}
+
+// The names in a node's folder of attributes and in those below it. None may be there.
+fn found_below<R: Files + AllocGlobal + Clone + Drop>(
+    rt: &R,
+    dir: String,
+) -> Result<BTreeSet<Bytes>, TreeError> {
+    let mut found = BTreeSet::new(rt.alloc());
+    if disk::look(rt, &dir).map_err(fault)?.is_none() {
+        return Ok(found);
+    }
+    let mut todo = Vec::new(rt.alloc());
+    todo.push(Folder {
+        path: dir,
+        begin: Vec::new(rt.alloc()),
+    })?;
     for _ in 0..u64::MAX {
         let Some(folder) = todo.pop() else {
             break;
         };
         read_folder(rt, &folder, &mut found, &mut todo)?;
     }
-    let mut names = Vec::new(rt.alloc());
-    for bytes in found {
-        names.push(AttrName { bytes })?;
-    }
-    Ok(names)
+    Ok(found)
 }
 
 // The names in a folder, and the folders in it. A file `new` is what a change that was cut off has left.

@@ -54,21 +54,29 @@ pub fn stat(rt: &impl Files, layout: &Layout, path: &TreePath) -> Result<Option<
     Ok(Some(Stat { kind, len }))
 }
 
+// What stands in a folder, by name.
+fn kinds_in<R: Files + AllocGlobal + Clone + Drop>(
+    rt: &R,
+    folder: &str,
+) -> Result<BTreeMap<Bytes, Kind>, TreeError> {
+    let mut kinds = BTreeMap::new(rt.alloc());
+    for entry in fs::read_dir(rt, folder).map_err(fault)? {
+        let entry = entry.map_err(fault)?;
+        let kind = kind_of(&entry.metadata().map_err(fault)?)?;
+        kinds.insert(Bytes::new(rt.alloc(), entry.file_name().as_bytes())?, kind)?;
+    }
+    Ok(kinds)
+}
+
 pub fn list<R: Files + AllocGlobal + Clone + Drop>(
     rt: &R,
     layout: &Layout,
     dir: &TreePath,
 ) -> Result<Vec<Entry>, TreeError> {
-    let node = layout.place(dir)?.node;
-    let mut found = BTreeMap::new(rt.alloc());
-    for entry in fs::read_dir(rt, &node).map_err(fault)? {
-        let entry = entry.map_err(fault)?;
-        let kind = kind_of(&entry.metadata().map_err(fault)?)?;
-        found.insert(Bytes::new(rt.alloc(), entry.file_name().as_bytes())?, kind)?;
-    }
+    let kinds = kinds_in(rt, &layout.place(dir)?.node)?;
     let root = TreePath::root(rt.alloc());
     let mut entries = Vec::new(rt.alloc());
-    for (name, kind) in &found {
+    for (name, kind) in &kinds {
         if !is_step(name.slice()) {
             return Err(TreeError::Refused);
         }
