@@ -1,18 +1,20 @@
 // What a ring is loaded from.
-ghost use Rattle.std.specs.Prelude.{◌≡◌, ◌≢◌, ◌⊎◌, ℕ, ◌<◌, ◌≤◌, List, Some, true, IfOk, OnOk, OnErr, IfErr, IfSome, IsErrOf};
+ghost use Rattle.std.specs.Prelude.{◌≡◌, ◌≢◌, ◌⊎◌, ◌↔◌, ℕ, ◌<◌, ◌≤◌, List, Some, true, IfOk, OnOk, OnErr, IfErr, IfSome, IsErrOf, IsTrue};
 ghost use Rattle.fault_count.specs.Counted.{Counted};
 ghost use Rattle.dev_api.specs.Disk.{settled};
 ghost use Rattle.dev_api.specs.Run.{Keeps};
 ghost use Rattle.ring_frame.specs.Heads.{head_in, size_fits};
+ghost use Rattle.ring_images.specs.Headers.{IsSize};
 ghost use Rattle.ring_images.specs.Held.{IsSound, Within};
 ghost use Rattle.ring_journal.specs.Found.{found_in};
 
 use crate::head::{Found, find_head};
 use dev_api::{DevFailed, Device};
 
-/// A device of this size may have a ring.
+/// Whether a device of this size can have a ring.
 pub fn is_size(size: u64) -> bool
-    ensures { result ≡ size_fits size }
+    ensures told { result ≡ size_fits size }
+    ensures decides { IsTrue result ↔ IsSize size }
 {
     size % 4096 == 0 && 16384 <= size && size <= 1 << 40
 }

@@ -5,7 +5,6 @@
 //! names.
 #![tactic(auto)]
 
-mod draws;
 mod event;
 mod leave;
 mod making;

@@ -3,8 +3,8 @@ ghost use Rattle.std.specs.Prelude.{◌≡◌, ◌⊎◌, ◌<◌, ◌≤◌, �
 ghost use Rattle.tree_api.specs.Tree.{Mix};
 ghost use Rattle.tree_memory.specs.Nodes.{version};
 
-use crate::draws::Draws;
 use crate::node::{Change, Node, lengthen};
+use draws::Draws;
 use std::alloc::AllocError;
 use tree_api::Bytes;
 

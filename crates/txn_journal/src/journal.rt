@@ -1,5 +1,5 @@
 //! A journal of transactions.
-ghost use Rattle.std.specs.Prelude.{◌≡◌, ◌≢◌, ◌↔◌, ◌+◌, ◌-◌, ◌<◌, ◌≤◌, ◌^◌, ◌++◌, ℕ, List, [], length, true, IsTrue, Ok, Err, OnOk, OnErr, IfOk, IfErr, IsErrOf};
+ghost use Rattle.std.specs.Prelude.{◌≡◌, ◌≢◌, ◌↔◌, ◌+◌, ◌-◌, ◌<◌, ◌≤◌, ◌^◌, ◌++◌, ℕ, List, [], length, true, Ok, Err, OnOk, OnErr, IfOk, IfErr, IsErrOf};
 ghost use Rattle.fault_count.specs.Counted.{Counted};
 ghost use Rattle.fs_model.specs.declared.op.Op.{Op};
 ghost use Rattle.dev_api.specs.Run.{Keeps};
@@ -15,7 +15,7 @@ use crate::steps::{NO_FSID, append_all, begin, load};
 use crate::{MakeFault, MountFault, WriteFault};
 use dev_api::Device;
 use fs_model::{Blob, PlainObjects};
-use ring_journal::{Ring, RingFault, made_law};
+use ring_journal::{Ring, RingFault, is_size, made_law};
 use std::alloc::Global;
 use std::marker::Model;
 
@@ -44,13 +44,6 @@ pub struct MountedJournal {
     pub journal: Journal,
     /// The objects after all transactions that it holds.
     pub objects: PlainObjects,
-}
-
-// Whether a device of this size may have a journal.
-fn is_size(size: u64) -> bool
-    ensures { IsTrue result ↔ IsSize size }
-{
-    size % 4096 == 0 && size >= 16_384 && size <= 1 << 40
 }
 
 impl Journal {

@@ -8,7 +8,7 @@ use Rattle.txn_journal.proofs.journal.Journal.make.Goals as goal
 pub returns-in-Ok-clause-reads : goal.returns-in-Ok-clause-reads
 returns-in-Ok-clause-reads g c = λ told.
     let n = g.D.Device.extent c.args.dev.now in
-    let size = subst IsSize c.size-size.ensures (c.if-not-is_size.ensures.0 refl) in
+    let size = subst IsSize c.size-size.ensures (c.if-not-is_size.ensures.decides.0 refl) in
     made_reads _ n (c.in-Ok.ensures.made told) (c.made_law.ensures.head no_fsid n refl size) (c.made_law.ensures.empty no_fsid n refl size)
 
 pub returns-in-Ok-clause-sound : goal.returns-in-Ok-clause-sound
