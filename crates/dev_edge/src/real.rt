@@ -6,10 +6,11 @@ use crate::EdgeFault;
 use dev_api::{DevError, DevFailed, Device};
 use fault_count::FaultCount;
 use std::fs::{OpenFile, OpenOptions};
-use std::io;
 use std::io::{ErrorKind, Read, Seek, SeekFrom, Write};
 use std::marker::Model;
+use std::path::Path;
 use std::rt::Files;
+use std::{fs, io};
 
 /// The bytes of a file that is made because there was none.
 const NEW_SIZE: u64 = 67_108_864;
@@ -35,6 +36,15 @@ impl<R: Files> Model for RealDevice<R> {
     ghost invariant = { λ d. d.faults < 2 ^ 64 };
 }
 
+// Makes the names in the folder that has this path stable.
+fn sync_folder(rt: &impl Files, path: &str) -> io::Result<()> {
+    let folder = match Path::new(path).parent() {
+        Some(folder) if !folder.as_str().is_empty() => folder,
+        _ => Path::new("."),
+    };
+    fs::open(rt, folder)?.sync_all()
+}
+
 // Opens the file, or makes one of zeros.
 fn open_or_make<R: Files>(rt: &R, path: &str) -> io::Result<R::File> {
     let mut options = OpenOptions::new();
@@ -44,6 +54,7 @@ fn open_or_make<R: Files>(rt: &R, path: &str) -> io::Result<R::File> {
             let file = options.create_new(true).open(rt, path)?;
             file.set_len(NEW_SIZE)?;
             file.sync_all()?;
+            sync_folder(rt, path)?;
             Ok(file)
         }
         opened => opened,

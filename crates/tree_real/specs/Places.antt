@@ -1,5 +1,7 @@
 -- Where the things of a tree lie below its root, as texts.
-use Rattle.std.specs.Prelude.{◌≡◌, ◌≢◌, ◌⊎◌, ℕ, zero, suc, ◌-◌, ◌*◌, ◌/◌, List, [], ◌∷◌, ◌++◌, length, take, drop, flat_map, All, codes}
+use Rattle.std.specs.Prelude.{◌≢◌, ℕ, zero, suc, ◌-◌, ◌*◌, ◌/◌, List, [], ◌∷◌, ◌++◌, length, take, drop, flat_map, codes}
+use Rattle.std.specs.Option.{unwrap_or}
+use Rattle.std.specs.Path.{path_parent}
 use Rattle.std.specs.Str.{IsUtf8}
 use Rattle.hex.specs.Hex.{encode_lower}
 use Rattle.tree_api.specs.Tree.{Path}
@@ -8,11 +10,13 @@ use Rattle.tree_api.specs.Tree.{Path}
 abbrev pub joined : List ℕ → List ℕ → List ℕ
 joined dir name = dir ++ (47 ∷ name)
 
--- the folder in which a path stands: what is before its last slash
-abbrev pub IsAbove : List ℕ → List ℕ → Type 0
-IsAbove path dir =
-    ((name : List ℕ) × (path ≡ dir ++ (47 ∷ name)) × All (λ b. b ≢ 47) name)
-    ⊎ (All (λ b. b ≢ 47) path × (dir ≡ codes "."))
+-- the folder in which a path stands: `.` where the path is a name alone
+abbrev pub named : List ℕ → List ℕ
+named [] = codes "."
+named (byte ∷ dir) = byte ∷ dir
+
+abbrev pub above : List ℕ → List ℕ
+above path = named (unwrap_or (path_parent path) [])
 
 -- a step that may be a file's name
 abbrev pub IsFileName : List ℕ → Type 0

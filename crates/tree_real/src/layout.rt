@@ -1,9 +1,10 @@
 ghost use Rattle.std.specs.Prelude.{◌≡◌, ◌≢◌, ◌++◌, ℕ, List, codes, All, IfOk, OnOk, IsErrOf, MatchOption, string_bytes};
 ghost use Rattle.tree_api.specs.declared.tree.TreeError.TheVariants.{Refused};
 ghost use Rattle.hex.specs.Hex.{encode_lower};
-ghost use Rattle.tree_real.specs.Places.{joined, IsAbove, IsFileName, node_at, side_at, attrs_at, attr_file};
+ghost use Rattle.tree_real.specs.Places.{joined, above, IsFileName, node_at, side_at, attrs_at, attr_file};
 
 use std::alloc::{AllocError, Global};
+use std::path::Path;
 use tree_api::{TreeError, TreePath};
 
 /// The bytes of an attribute's name that one file name holds.
@@ -128,7 +129,7 @@ impl Layout {
 
     /// A file beside this one.
     pub fn beside(&self, file: &str) -> Result<String, AllocError>
-        ensures { IfOk result (λ path. (dir : List ℕ) × IsAbove file.now dir × (string_bytes path ≡ joined dir (codes "new"))) }
+        ensures { IfOk result (λ path. string_bytes path ≡ joined (above file.now) (codes "new")) }
     {
         joined(self.alloc, above(file), "new")
     }
@@ -153,11 +154,11 @@ pub fn joined(alloc: Global, dir: &str, name: &str) -> Result<String, AllocError
 
 /// The folder in which this stands.
 pub fn above(path: &str) -> &str
-    ensures { IsAbove path.now result.now }
+    ensures { result.now ≡ above path.now }
 {
-    match path.rsplit_once("/") {
-        Some((dir, _)) => dir,
-        None => ".",
+    match Path::new(path).parent() {
+        Some(dir) if !dir.as_str().is_empty() => dir.as_str(),
+        _ => ".",
     }
 }
 
