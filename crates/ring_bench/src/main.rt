@@ -20,7 +20,7 @@ fn run<R: Env + Files + AllocGlobal + Clone + Drop>(rt: &R) -> Result<(), Fault>
     let (Some(command), Some(file)) = (words.next(), words.next()) else {
         return Err(Fault::Usage);
     };
-    let Some(command) = read_command(command.as_str()) else {
+    let Some(command) = read_command(command.as_bytes()) else {
         return Err(Fault::Usage);
     };
     let mut device = RealDevice::at(rt.clone()?, file.as_str())?;

@@ -1,10 +1,11 @@
 ghost use Rattle.std.specs.Prelude.{◌≡◌, ◌≤◌, IsErrOf};
 ghost use Rattle.fault_count.specs.Counted.{Counted};
+ghost use Rattle.ring_bench.specs.Command.{command_of};
 ghost use Rattle.ring_bench.specs.declared.work.Fault.TheVariants.{Edge, Ring, Memory};
 
 use dev_api::Device;
 use dev_edge::{EdgeFault, RealDevice, told_on_a_file};
-use ring_journal::{Ring, RingFault};
+use ring_journal::{Ring, RingFault, is_size};
 use std::alloc::{AllocError, Global};
 use std::rt::Files;
 
@@ -62,12 +63,17 @@ pub enum Command {
     Read,
 }
 
-pub fn read_command(word: &str) -> Option<Command> {
-    match word {
-        "make" => Some(Command::Make),
-        "append" => Some(Command::Append),
-        "read" => Some(Command::Read),
-        _ => None,
+pub fn read_command(word: &[u8]) -> Option<Command>
+    ensures { result ≡ command_of word.now }
+{
+    if word == b"make".as_slice() {
+        Some(Command::Make)
+    } else if word == b"append".as_slice() {
+        Some(Command::Append)
+    } else if word == b"read".as_slice() {
+        Some(Command::Read)
+    } else {
+        None
     }
 }
 
@@ -75,8 +81,7 @@ fn make<R: Files>(device: &mut RealDevice<R>) -> Result<(), Fault>
     ensures faults { device.old.faults ≤ device.new.faults }
     ensures cause { IsErrOf result (Fault.Ring RingFault.Dev) → Counted device.old.faults device.new.faults }
 {
-    let size = device.size();
-    if size % 4096 != 0 || size < 16384 || size > 1 << 40 {
+    if !is_size(device.size()) {
         return Err(Fault::Entries);
     }
     Ring::make(device, &FSID)?;

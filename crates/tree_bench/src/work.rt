@@ -83,6 +83,24 @@ fn make_all<T: FileTree>(
     Ok(())
 }
 
+/// The path of an object's file, which is to be there.
+fn path_of<T: FileTree>(
+    alloc: Global,
+    tree: &mut T,
+    dir: &TreePath,
+    hash: u32,
+) -> Result<TreePath, Fault>
+    requires untold { T.tells → ⊥ }
+    ensures cause { HasCause (T.disk tree.old).faults (T.disk tree.new).faults result }
+    ensures syncs { (T.disk tree.new).syncs ≡ (T.disk tree.old).syncs }
+{
+    let oid = object(alloc, hash)?;
+    let Some(path) = find(alloc, tree, &SETTINGS, dir, &oid)? else {
+        return Err(Fault::Objects);
+    };
+    Ok(path)
+}
+
 fn find_all<T: FileTree>(
     alloc: Global,
     tree: &mut T,
@@ -94,10 +112,7 @@ fn find_all<T: FileTree>(
     ensures syncs { (T.disk tree.new).syncs ≡ (T.disk tree.old).syncs }
 {
     for hash in 0..count {
-        let oid = object(alloc, hash)?;
-        let Some(_) = find(alloc, tree, &SETTINGS, dir, &oid)? else {
-            return Err(Fault::Objects);
-        };
+        path_of(alloc, tree, dir, hash)?;
     }
     Ok(())
 }
@@ -113,10 +128,7 @@ fn remove_all<T: FileTree>(
     ensures syncs { (T.disk tree.new).syncs ≡ (T.disk tree.old).syncs }
 {
     for hash in 0..count {
-        let oid = object(alloc, hash)?;
-        let Some(path) = find(alloc, tree, &SETTINGS, dir, &oid)? else {
-            return Err(Fault::Objects);
-        };
+        let path = path_of(alloc, tree, dir, hash)?;
         unlink(tree, &path)?;
     }
     Ok(())
