@@ -19,7 +19,7 @@ use Rattle.fs_names.specs.Reading.{CollFits, coll_of, pg_of, pg_from, seed_of, k
 use Rattle.fs_names.specs.Text.{coll_text}
 use Rattle.fs_names.proofs.Colls.{head_text, temp_text, no_group, no_kind}
 use Rattle.fs_names.proofs.Digits.{digits-lower, length-digits, number_gives, number_reads}
-use Rattle.fs_names.proofs.Spellings.{is_inner, digits-inner}
+use Rattle.fs_names.proofs.Inner.{is_inner, digits-inner}
 use Rattle.fs_names.proofs.Splits.{position_or_len_le}
 
 -- what stands before and after a byte that does not stand before

@@ -49,14 +49,16 @@ graphic_inner : (b : ℕ) → b ≢ 95 → is_ascii_graphic b ≡ true → is_in
 graphic_inner b other h = grind (arith, nat_tests)
 
 glyph_inner : (d : ℕ) → d < 16 → is_inner (digit_glyph false d) ≡ true
-glyph_inner d small = lower_inner 16 _ (omega arith) (glyph_lower 16 d (omega arith) small)
+glyph_inner d small = lower_inner 16 (digit_glyph false d) (omega arith) (glyph_lower 16 d (omega arith) small)
 
 digits_unit-inner : (b : ℕ) → b < 256 → AllPass is_inner (92 ∷ 120 ∷ digit_glyph false (b / 16) ∷ digit_glyph false (b % 16) ∷ [])
 digits_unit-inner b small =
     let P = λ (x : ℕ). is_inner x ≡ true in
     let some : 0 < 16 = omega arith in
     let high : b / 16 < 16 = (div-lt_iff_lt-mul some).1 (omega arith) in
-    All-cons P 92 _ refl (All-cons P 120 _ refl (All-cons P _ _ (glyph_inner (b / 16) high) (All-cons P _ [] (glyph_inner (b % 16) (mod-lt b some)) (All-nil P))))
+    let h = digit_glyph false (b / 16) in
+    let l = digit_glyph false (b % 16) in
+    All-cons P 92 (120 ∷ h ∷ l ∷ []) refl (All-cons P 120 (h ∷ l ∷ []) refl (All-cons P h (l ∷ []) (glyph_inner (b / 16) high) (All-cons P l [] (glyph_inner (b % 16) (mod-lt b some)) (All-nil P))))
 
 by_word : (b w : ℕ) → b ≡ w → AllPass is_inner (spelled w) → AllPass is_inner (spelled b)
 by_word b w e h = subst (λ x. AllPass is_inner (spelled x)) (sym e) h
@@ -93,7 +95,7 @@ name_text-inner bytes all = by (begins bytes (codes "DIR_")) (begins bytes (code
     escaped : (w n : ℕ) → is_inner w ≡ true → AllPass is_inner (92 ∷ w ∷ field_text (drop n bytes))
     escaped w n h =
         let P = λ (x : ℕ). is_inner x ≡ true in
-        All-cons P 92 _ refl (All-cons P w _ h (field_text-inner (drop n bytes) (All-drop (λ b. b < 256) n bytes all)))
+        All-cons P 92 (w ∷ field_text (drop n bytes)) refl (All-cons P w (field_text (drop n bytes)) h (field_text-inner (drop n bytes) (All-drop (λ b. b < 256) n bytes all)))
 
     by : (d p : Bool) → AllPass is_inner (cond d (92 ∷ 100 ∷ field_text (drop 4 bytes)) (cond p (92 ∷ 46 ∷ field_text (drop 1 bytes)) (field_text bytes)))
     by true p = escaped 100 4 refl

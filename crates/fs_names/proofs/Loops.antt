@@ -1,8 +1,11 @@
 -- What the loops over bytes keep.
-use Rattle.std.proofs.Common.{◌≡◌, ◌≢◌, ℕ, zero, suc, ◌+◌, ◌-◌, ◌/◌, ◌%◌, ◌^◌, ◌<◌, ◌≤◌, Bool, true, false, cond, eqb, List, [], ◌∷◌, ◌++◌, length, get_or, set, take, drop, slice_get, Option, Some, None, Result, Ok, Err, refl, sym, ap, subst, ◌∙◌, arith, append_assoc, length-append, min, inl, inr}
+use Rattle.std.proofs.Common.{◌≡◌, ◌≢◌, ℕ, zero, suc, ◌+◌, ◌-◌, ◌/◌, ◌%◌, ◌^◌, ◌<◌, ◌≤◌, Bool, true, false, cond, eqb, List, [], ◌∷◌, ◌++◌, length, get_or, set, take, drop, slice_get, Option, Some, None, Result, Ok, Err, OnOk, MatchOption, Bor, nat_eq, refl, sym, ap, subst, ◌∙◌, arith, append_assoc, length-append, length-drop, min, inl, inr}
 use Rattle.std.proofs.Math.Nat.{div-lt_iff_lt-mul, pow-suc}
 use Rattle.std.proofs.lemmas.Bool.{eq-eqb, ne_eqb, cases_lt}
 use Rattle.std.proofs.lemmas.List.{take_all, take_more, drop_more, drop_all, drop-set, length-set, append-nil}
+use Rattle.std.proofs.lemmas.Bool.Decides.{Decides-eqb}
+use Rattle.std.proofs.lemmas.Slice.Eq.{strip_prefix_is}
+use Rattle.std.specs.Cmp.Lexicographic.{pointwise}
 use Rattle.std.specs.Fmt.{digits, digits_onto, digit_glyph}
 use Rattle.std.specs.Ordering.{ordering_then, is_ne}
 use Rattle.std.specs.declared.cmp.Ordering.{Ordering}
@@ -218,3 +221,29 @@ first_decides r x t rest e is not = e ∙ by x (λ f. differs_by r t is not (e �
 
 pub next_decides : (r x : Ordering) (t : Bool) (z rest : Ordering) → r ≡ x → t ≡ is_ne r → t ≡ false → z ≡ rest → z ≡ ordering_then x rest
 next_decides r x t z rest e is not f = f ∙ ap (λ o. ordering_then o rest) (sym (sym e ∙ ties_by r t is not))
+
+-- A front that is stripped.
+pub not_stripped : (text front : List ℕ) (Q : Bor (List ℕ) → Type 0) (r : Option (Bor (List ℕ)))
+    → MatchOption r (pointwise nat_eq (take (length front) text) front ≡ false) Q → r ≡ None → (rest : List ℕ) → text ≢ front ++ rest
+not_stripped text front Q (Some x) m e = cc
+not_stripped text front Q None m e = strip_prefix_is Decides-eqb text front None m
+
+pub stripped : (text front : List ℕ) (r : Option (Bor (List ℕ))) (x : Bor (List ℕ))
+    → MatchOption r (pointwise nat_eq (take (length front) text) front ≡ false)
+    (λ x. (pointwise nat_eq (take (length front) text) front ≡ true) × (x.now ≡ drop (length front) text) × (length x.now + length front ≡ length text))
+    → r ≡ Some x → text ≡ front ++ x.now
+stripped text front (Some y) x m e =
+    let same : y ≡ x = cc in
+    strip_prefix_is Decides-eqb text front (Some y) m ∙ ap (λ z. front ++ z.now) same
+stripped text front None x m e = cc
+
+pub some_left : (n : ℕ) (t : Bool) → t ≡ eqb n 0 → t ≡ false → 0 < n
+some_left zero t e f = (let clash : true ≡ false = sym e ∙ f in absurd cc)
+some_left (suc n) t e f = omega arith
+
+pub on_ok : {T E : Type 0} (r : Result T E) (A B : Type 0) → OnOk r A → (A → B) → OnOk r B
+on_ok (Ok x) A B h f = f h
+on_ok (Err e) A B h f = tt
+
+pub take_rest : (n : ℕ) (xs : List ℕ) → take (length xs - n) (drop n xs) ≡ drop n xs
+take_rest n xs = take_all (length xs - n) (drop n xs) (omega (arith, length-drop n xs))

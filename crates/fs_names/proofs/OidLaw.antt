@@ -34,7 +34,7 @@ apart : (bytes : List ℕ) → AllPass is_inner bytes → All (λ b. is_undersco
 apart bytes all = All-weaker (λ b. is_inner b ≡ true) (λ b. is_underscore b ≡ false) inner_apart bytes all
 
 -- six fields, joined and split again
-abbrev joined : List ℕ → List ℕ → List ℕ → List ℕ → List ℕ → List ℕ → List ℕ
+abbrev pub joined : List ℕ → List ℕ → List ℕ → List ℕ → List ℕ → List ℕ → List ℕ
 joined a b c d e f = a ++ 95 ∷ b ++ 95 ∷ c ++ 95 ∷ d ++ 95 ∷ e ++ 95 ∷ f
 
 to_the_right : (a b c d e f : List ℕ) → a ++ b ++ c ++ d ++ e ++ f ≡ a ++ (b ++ (c ++ (d ++ (e ++ f))))
@@ -65,7 +65,7 @@ names_read o fits =
     })
     ∙ limits_ok (name_text o.name) (field_text o.key) (snap_text o.snap) (hash_text o.hash) (field_text o.nspace) o.name o.key o.nspace fits.name.short fits.key.short fits.nspace.short
 
-text_joined : (o : Oid) → oid_text o ≡ joined (name_text o.name) (field_text o.key) (snap_text o.snap) (hash_text o.hash) (field_text o.nspace) (pool_text o.pool)
+pub text_joined : (o : Oid) → oid_text o ≡ joined (name_text o.name) (field_text o.key) (snap_text o.snap) (hash_text o.hash) (field_text o.nspace) (pool_text o.pool)
 unfolding oid_text
 text_joined o = refl
 

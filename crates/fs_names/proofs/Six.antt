@@ -27,6 +27,11 @@ pub went : {A B : Type 0} (r : Result A NameFault) (f : A → Result B NameFault
 went (Ok x) f y e = record { value = x; first = refl; then = e }
 went (Err fault) f y e = cc
 
+-- a value that is there
+pub there : {A : Type 0} (r : Result A NameFault) (P : A → Type 0) → IsOkAnd r P → (x : A) × (r ≡ Ok x) × P x
+there (Ok x) P h = (x, refl, h)
+there (Err f) P h = absurd h
+
 -- what is counted
 pub counted_ok : (r : Result (List ℕ) NameFault) (n : ℕ) → counted r ≡ Ok n → (bytes : List ℕ) × (r ≡ Ok bytes) × (length bytes ≡ n)
 counted_ok (Ok bytes) n e = (bytes, refl, cc)
@@ -47,24 +52,26 @@ within_gives field bytes xs e = by (ltb 1024 (length bytes)) refl e
     by false is f = ltb-false 1024 (length bytes) is
 
 -- a field's length, judged by its count
-pub long_limit : (field count : ℕ) (bytes : List ℕ) (fault : NameFault) → length bytes ≡ count
-    → cond (ltb 1024 count) (Err (TooLong field)) (Ok {T = Unit {0}} tt) ≡ Err fault → within_limit field bytes ≡ Err fault
-long_limit field count bytes fault e h =
-    subst (λ n. cond (ltb 1024 n) (Err (TooLong field)) (Ok {T = Unit {0}} tt) ≡ Err fault → cond (ltb 1024 n) (Err (TooLong field)) (Ok bytes) ≡ Err fault) (sym e)
-    (by (ltb 1024 count)) h
+abbrev pub verdict : Bool → ℕ → Result (Unit {0}) NameFault
+verdict b field = cond b (Err (TooLong field)) (Ok tt)
+
+abbrev pub judged : ℕ → ℕ → Result (Unit {0}) NameFault
+judged count field = verdict (ltb 1024 count) field
+
+pub long_limit : (field count : ℕ) (bytes : List ℕ) (fault : NameFault) → length bytes ≡ count → judged count field ≡ Err fault → within_limit field bytes ≡ Err fault
+long_limit field count bytes fault e h = by (ltb 1024 (length bytes)) (ap (λ n. judged n field) e ∙ h)
   where
-    by : (b : Bool) → cond b (Err (TooLong field)) (Ok {T = Unit {0}} tt) ≡ Err fault → cond b (Err (TooLong field)) (Ok bytes) ≡ Err fault
+    by : (b : Bool) → verdict b field ≡ Err fault → cond b (Err (TooLong field)) (Ok bytes) ≡ Err fault
     by true f = cc
     by false f = cc
 
-pub fits_limit : (count : ℕ) (bytes : List ℕ) (field : ℕ) → length bytes ≡ count → cond (ltb 1024 count) (Err (TooLong field)) (Ok {T = Unit {0}} tt) ≡ Ok tt → length bytes ≤ 1024
+pub fits_limit : (count : ℕ) (bytes : List ℕ) (field : ℕ) → length bytes ≡ count → judged count field ≡ Ok tt → length bytes ≤ 1024
 fits_limit count bytes field e h = subst (λ n. n ≤ 1024) (sym e) (by (ltb 1024 count) refl h)
   where
-    by : (b : Bool) → ltb 1024 count ≡ b → cond b (Err (TooLong field)) (Ok {T = Unit {0}} tt) ≡ Ok tt → count ≤ 1024
+    by : (b : Bool) → ltb 1024 count ≡ b → verdict b field ≡ Ok tt → count ≤ 1024
     by true is f = cc
     by false is f = ltb-false 1024 count is
 
--- want of memory is no fault of a text
 pub record NamesRead (name key nspace n k s : List ℕ) (key_at nspace_at : ℕ) : Type 0 where
   pub name_is : name_of name ≡ Ok n
   pub key_is : field_of key_at key ≡ Ok k
@@ -215,9 +222,5 @@ module _ (name key snap hash nspace : List ℕ) where
         let same_name : names.0.0 ≡ n = (let i : Ok names.0.0 ≡ Ok n = sym r.name_is ∙ a in cc) in
         let same_key : names.0.1 ≡ k = (let i : Ok names.0.1 ≡ Ok k = sym (field_moved key_at 0 key names.0.1 r.key_is) ∙ b in cc) in
         let same_space : names.0.2 ≡ z = (let i : Ok names.0.2 ≡ Ok z = sym (field_moved nspace_at 0 nspace names.0.2 r.nspace_is) ∙ c in cc) in
-        let same : ◌≡◌ {A = List ℕ × List ℕ × List ℕ} names.0 (n, k, z) = cc in
+        let same : ◌≡◌ {A = List ℕ × List ℕ × List ℕ} names.0 (n, k, z) = λ i. (same_name i, same_key i, same_space i) in
         six_ok n k z x y w (names.1 ∙ ap Ok same) s h p
-
--- none of these faults is the want of memory
-pub not_memory : (f : NameFault) → f ≢ Memory → Err {T = Oid} f ≢ Err Memory
-not_memory f other e = other cc

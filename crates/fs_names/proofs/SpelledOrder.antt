@@ -290,14 +290,21 @@ module _ (a b : Oid) (f : OidFits a) (g : OidFits b) where
   pub texts_order : slice_cmp nat_cmp (hash_digits a.hash) (hash_digits b.hash) ≡ Equal
       → slice_cmp nat_cmp (oid_text a) (oid_text b) ≡ ordering_then (ended_cmp (name_text a.name) (name_text b.name)) (ordering_then (ended_cmp (field_text a.key) (field_text b.key)) (ends_cmp a b))
   texts_order e =
-      ap (λ l. slice_cmp nat_cmp l (oid_text b)) (oid_text-nested a) ∙ ap (slice_cmp nat_cmp _) (oid_text-nested b)
-      ∙ pieces (name_text a.name) (name_text b.name) _ _ (name_text-inner a.name f.name.small) (name_text-inner b.name g.name.small)
+      let pool = λ (o : Oid). pool_text o.pool in
+      let nspace = λ (o : Oid). field_text o.nspace ++ (95 ∷ pool o) in
+      let hash = λ (o : Oid). hash_text o.hash ++ (95 ∷ nspace o) in
+      let snap = λ (o : Oid). snap_text o.snap ++ (95 ∷ hash o) in
+      let key = λ (o : Oid). field_text o.key ++ (95 ∷ snap o) in
+      let name = λ (o : Oid). name_text o.name ++ (95 ∷ key o) in
+      let ends = slice_cmp nat_cmp (nspace a) (nspace b) in
+      ap (λ l. slice_cmp nat_cmp l (oid_text b)) (oid_text-nested a) ∙ ap (slice_cmp nat_cmp (name a)) (oid_text-nested b)
+      ∙ pieces (name_text a.name) (name_text b.name) (key a) (key b) (name_text-inner a.name f.name.small) (name_text-inner b.name g.name.small)
       ∙ ap (ordering_then (ended_cmp (name_text a.name) (name_text b.name)))
-      (pieces (field_text a.key) (field_text b.key) _ _ (field_text-inner a.key f.key.small) (field_text-inner b.key g.key.small)
+      (pieces (field_text a.key) (field_text b.key) (snap a) (snap b) (field_text-inner a.key f.key.small) (field_text-inner b.key g.key.small)
       ∙ ap (ordering_then (ended_cmp (field_text a.key) (field_text b.key)))
-      (pieces (snap_text a.snap) (snap_text b.snap) _ _ (snap_text-inner a.snap) (snap_text-inner b.snap)
+      (pieces (snap_text a.snap) (snap_text b.snap) (hash a) (hash b) (snap_text-inner a.snap) (snap_text-inner b.snap)
       ∙ ap (ordering_then (ended_cmp (snap_text a.snap) (snap_text b.snap)))
-      (pieces (hash_text a.hash) (hash_text b.hash) _ _ (hash_text-inner a.hash) (hash_text-inner b.hash)
-      ∙ ap (λ l. ordering_then (ended_cmp l (hash_text b.hash)) _) (same_hash_text a.hash b.hash e)
-      ∙ ap (λ o. ordering_then o _) (same_list (hash_text b.hash ++ 95 ∷ []))
-      ∙ pieces (field_text a.nspace) (field_text b.nspace) _ _ (field_text-inner a.nspace f.nspace.small) (field_text-inner b.nspace g.nspace.small))))
+      (pieces (hash_text a.hash) (hash_text b.hash) (nspace a) (nspace b) (hash_text-inner a.hash) (hash_text-inner b.hash)
+      ∙ ap (λ l. ordering_then (ended_cmp l (hash_text b.hash)) ends) (same_hash_text a.hash b.hash e)
+      ∙ ap (λ o. ordering_then o ends) (same_list (hash_text b.hash ++ 95 ∷ []))
+      ∙ pieces (field_text a.nspace) (field_text b.nspace) (pool a) (pool b) (field_text-inner a.nspace f.nspace.small) (field_text-inner b.nspace g.nspace.small))))

@@ -138,7 +138,10 @@ fn read_values(fields: &Fields<'_>) -> Result<Values, NameFault>
         IfErr result (λ fault. oid_of_six f.name.now f.key.now f.snap.now f.hash.now f.nspace.now f.pool.now ≡ Err fault) }
     ensures never { result ≢ Err NameFault.Memory }
 {
-    let counts = count_names(fields)?;
+    let counts = match count_names(fields) {
+        Ok(counts) => counts,
+        Err(fault) => return Err(fault),
+    };
     let Some(snap) = read_snap(fields.snap) else {
         return Err(NameFault::BadField { n: 2 });
     };
@@ -160,6 +163,7 @@ fn read_values(fields: &Fields<'_>) -> Result<Values, NameFault>
 fn count_names(fields: &Fields<'_>) -> Result<Counts, NameFault>
     requires { let f = fields.now in
         length f.name.now + length f.key.now + length f.snap.now + length f.hash.now + length f.nspace.now + 5 < 2 ^ 64 }
+    ensures never { result ≢ Err NameFault.Memory }
     ensures ok { let f = fields.now in OnOk result (IsOk (names_of f.name.now f.key.now f.snap.now f.hash.now f.nspace.now)) }
     ensures fault { let f = fields.now in
         IfErr result (λ fault. names_of f.name.now f.key.now f.snap.now f.hash.now f.nspace.now ≡ Err fault) }

@@ -8,7 +8,7 @@ ghost use Rattle.fs_names.specs.Order.{ended_cmp, ends_cmp, name_unit};
 
 use crate::Oid;
 use crate::short_text::ShortText;
-use crate::unit::Unit;
+use crate::unit::{Unit, are_bytes};
 use std::cmp::Ordering;
 
 /// The order of the texts of two objects with one hash.
@@ -52,6 +52,8 @@ fn order_ends(a: &Oid, b: &Oid) -> Ordering
 fn order_names(a: &[u8], b: &[u8]) -> Ordering
     ensures { result ≡ ended_cmp (name_text a.now) (name_text b.now) }
 {
+    are_bytes(a);
+    are_bytes(b);
     let start = name_unit(a).slice().cmp(name_unit(b).slice());
     if start.is_ne() {
         return start;
@@ -76,6 +78,8 @@ fn name_unit(name: &[u8]) -> Unit
 fn order_fields(a: &[u8], b: &[u8]) -> Ordering
     ensures { result ≡ ended_cmp (field_text a.now) (field_text b.now) }
 {
+    are_bytes(a);
+    are_bytes(b);
     let place = first_difference(a, b);
     Unit::at(a, place).slice().cmp(Unit::at(b, place).slice())
 }

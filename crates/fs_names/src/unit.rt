@@ -1,5 +1,6 @@
 ghost use Rattle.std.specs.Prelude.{◌≡◌, ◌<◌, ◌≤◌, ◌/◌, ◌%◌, [], ◌∷◌, List, ℕ, false, length, take};
 ghost use Rattle.std.specs.Fmt.{digit_glyph};
+ghost use Rattle.std.specs.List.{All};
 ghost use Rattle.fs_names.specs.Order.{unit_at};
 ghost use Rattle.fs_names.specs.Text.{spelled};
 
@@ -94,3 +95,8 @@ pub(crate) fn lower_digit(value: u8) -> u8
         b'a' + (value - 10)
     }
 }
+
+/// Every byte is below 256.
+pub(crate) fn are_bytes(bytes: &[u8])
+    ensures { All (λ b. b < 256) bytes.now }
+{}
