@@ -1,10 +1,9 @@
 //! The transactions that a ring holds, applied one after another.
 ghost use Rattle.std.specs.Prelude.{◌≡◌, ◌≢◌, ◌≤◌, ℕ, List, true, Ok, Err, OnOk, IfOk, IfErr, IsErrOf};
-ghost use Rattle.std.specs.List.{AllByRecursion, list_any};
+ghost use Rattle.std.specs.List.{list_any};
 ghost use Rattle.std.specs.FinMap as map;
 ghost use Rattle.fault_count.specs.Counted.{Counted};
-ghost use Rattle.fs_model.specs.Check.{IsWithinLimits, too_big};
-ghost use Rattle.fs_model.specs.Rows.{fold_ops};
+ghost use Rattle.fs_model.specs.Check.{is_unfit};
 ghost use Rattle.ring_frame.specs.Frame.{Entry};
 ghost use Rattle.ring_images.specs.Held.{readable};
 ghost use Rattle.ring_journal.specs.State.{Loaded, Ended};
@@ -14,25 +13,14 @@ use crate::MountFault;
 use dev_api::Device;
 use fs_model::{Op, PlainObjects};
 use ring_journal::{Ring, RingFault};
-use std::alloc::{AllocError, Global};
+use std::alloc::Global;
 use txn_codec::{CodecFault, decode_txn};
 
-/// Applies operations in turn. After an `Err` the first of them were applied.
-pub fn apply_ops(objects: &mut PlainObjects, ops: &[Op]) -> Result<(), AllocError>
-    requires { AllByRecursion IsWithinLimits ops.now }
-    ensures { OnOk result (objects.new ≡ fold_ops objects.old ops.now) }
+// Whether one of these has a fault of its own, whatever is there.
+fn is_any_unfit(ops: &[Op]) -> bool
+    ensures { result ≡ list_any is_unfit ops.now }
 {
-    for op in ops {
-        objects.apply(op)?;
-    }
-    Ok(())
-}
-
-// Whether a quantity of one of these is above its limit.
-fn is_any_too_big(ops: &[Op]) -> bool
-    ensures { result ≡ list_any too_big ops.now }
-{
-    ops.iter().any(|op| op.is_too_big())
+    ops.iter().any(|op| op.is_unfit())
 }
 
 // What a payload's fault is to a mount.
@@ -63,10 +51,10 @@ fn apply_entry(
         Ok(txn) => txn,
         Err(fault) => return Err(entry_fault(fault, seq)),
     };
-    if is_any_too_big(txn.ops.slice()) {
+    if is_any_unfit(txn.ops.slice()) {
         return Err(MountFault::BadEntry { seq });
     }
-    apply_ops(objects, txn.ops.slice())?;
+    objects.apply_all(txn.ops.slice())?;
     Ok(())
 }
 
