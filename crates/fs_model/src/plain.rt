@@ -7,15 +7,16 @@ ghost use Rattle.fs_model.specs.Objects.{look, read_object, with_object, without
 ghost use Rattle.fs_model.specs.Plain.{edited, object_of, IsInReach};
 ghost use Rattle.fs_model.specs.Rows.{row, fold_ops, both_there, part};
 ghost use Rattle.fs_model.specs.Check.{IsWithinLimits, same_object};
-ghost use Rattle.fs_model.specs.Listing.{IsEachOnce, shelf_of};
+ghost use Rattle.fs_model.specs.Listing.{IsEachOnce, listing, shelf_of};
 ghost use Rattle.fs_model.specs.Colls.{colls_of};
 
+use crate::coll_order::{PlacedColl, add, in_order};
 use crate::edit::{Edit, Kept};
 use crate::shelf::PlainShelf;
-use crate::{Blob, CollList, OidList, Op, PlainObject};
+use crate::{Blob, CollList, CollNames, OidList, Op, Page, PlainObject};
 use fs_names::{Coll, Oid};
 use std::alloc::{AllocError, Global};
-use std::collections::BTreeMap;
+use std::collections::{BTreeMap, BTreeSet};
 use std::marker::Model;
 
 /// All objects, by collection. Each operation is done in place, so that what it costs goes by what it holds; an
@@ -93,6 +94,34 @@ impl PlainObjects {
         }
     }
 
+    /// A page of a collection's listing in hash order, from the first object at or after one on, or from the first of
+    /// all. It costs what the page holds, and a search. None where the collection is missing.
+    pub fn page(&self, c: &Coll, from: Option<&Oid>, max: u32) -> Result<Option<Page>, AllocError>
+        ensures { IfOk result (λ page. page ≡ listing self.now c.now (option_copied from) max) }
+    {
+        match self.shelves.get(c) {
+            None => Ok(None),
+            Some(shelf) => Ok(Some(shelf.page(from, max)?)),
+        }
+    }
+
+    /// The collections, in the order of their texts.
+    pub fn coll_names(&self) -> Result<CollNames, AllocError>
+        ensures { IfOk result (λ names. names ≡ map.keys self.now) }
+    {
+        in_order(self.alloc, self.placed_colls()?)
+    }
+
+    fn placed_colls(&self) -> Result<BTreeSet<PlacedColl>, AllocError>
+        ensures { IfOk result (λ set. set.keys ≡ map.keys self.now) }
+    {
+        let mut set = BTreeSet::new(self.alloc);
+        for c in self.shelves.keys() {
+            add(self.alloc, &mut set, *c)?;
+        }
+        Ok(set)
+    }
+
     /// Does what the operation means. Where memory runs out, all stays as it was.
     pub fn apply(&mut self, op: &Op) -> Result<(), AllocError>
         requires { IsWithinLimits op.now }
@@ -115,14 +144,25 @@ impl PlainObjects {
             Op::RmAttr { c, o, name } => self.edit(c, o, &Edit::RmAttr { name }),
             Op::RmAttrs { c, o } => self.edit(c, o, &Edit::RmAttrs),
             Op::Clone { c, o, c2, o2 } => self.copy_object(c, o, c2, o2),
-            Op::CloneRange { c, o, c2, o2, from, len, to } => {
-                self.copy_part(c, o, c2, o2, (*from, *len, *to))
-            }
+            Op::CloneRange {
+                c,
+                o,
+                c2,
+                o2,
+                from,
+                len,
+                to,
+            } => { self.copy_part(c, o, c2, o2, (*from, *len, *to)) }
             Op::MoveRename { c, o, c2, o2 } => self.move_object(c, o, c2, o2),
             Op::MkColl { c } => self.make(c),
             Op::RmColl { c } => Ok(self.drop_coll(c)),
             Op::OmapClear { c, o } => self.edit(c, o, &Edit::OmapClear),
-            Op::OmapSet { c, o, header, pairs } => {
+            Op::OmapSet {
+                c,
+                o,
+                header,
+                pairs,
+            } => {
                 let pairs = pairs.slice();
                 self.edit(c, o, &Edit::OmapSet { header, pairs })
             }
