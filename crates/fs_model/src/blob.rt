@@ -2,7 +2,7 @@ ghost use Rattle.std.specs.Prelude.{◌≡◌, ◌<◌, ◌≤◌, ◌+◌, ◌-
 ghost use Rattle.std.specs.Ordering.{nat_cmp, eq_by_cmp, as_partial_cmp};
 ghost use Rattle.std.specs.Cmp.{eq_by_cmp_equiv, partial_equiv_from_equiv, partial_order_from_total};
 ghost use Rattle.std.specs.Cmp.Lexicographic.{slice_cmp, nat_list_cmp_total};
-ghost use Rattle.fs_model.specs.Rows.{overwrite};
+ghost use Rattle.fs_model.specs.Rows.{overwrite, resize};
 
 use std::alloc::{AllocError, Global};
 use std::cmp::Ordering;
@@ -62,6 +62,39 @@ impl Blob {
         put_at(&mut self.bytes, at, bytes);
         Ok(())
     }
+
+    /// A copy of the bytes from a place on, at most so many.
+    pub fn part(&self, alloc: Global, from: usize, len: usize) -> Result<Blob, AllocError>
+        requires { from + len < 2 ^ 63 }
+        ensures { IfOk result (λ part. part ≡ take len (drop from self.now)) }
+    {
+        let start = from.min(self.bytes.len());
+        let end = (from + len).min(self.bytes.len());
+        Blob::new(alloc, &self.bytes[start..end])
+    }
+
+    /// Writes zeros from a place on, in place. Bytes between the old end and that place become 0.
+    pub fn zero_at(&mut self, at: usize, len: usize) -> Result<(), AllocError>
+        requires { at + len < 2 ^ 63 }
+        ensures ok { OnOk result (self.new ≡ overwrite self.old at (replicate len 0)) }
+        ensures err { OnErr result (self.new ≡ self.old) }
+    {
+        if len == 0 {
+            return Ok(());
+        }
+        lengthen(&mut self.bytes, at + len)?;
+        zero_part(&mut self.bytes, at, len);
+        Ok(())
+    }
+
+    /// Gives the list a length: bytes past it go, new ones are 0.
+    pub fn resize(&mut self, len: usize) -> Result<(), AllocError>
+        ensures ok { OnOk result (self.new ≡ resize self.old len) }
+        ensures err { OnErr result (self.new ≡ self.old) }
+    {
+        self.bytes.resize(len, 0)?;
+        Ok(())
+    }
 }
 
 // Lengthens a list of bytes by zeros where it is shorter.
@@ -81,6 +114,14 @@ fn put_at(into: &mut Vec<u8>, at: usize, bytes: &[u8])
     ensures { into.new.items ≡ take at into.old.items ++ bytes.now ++ drop (at + length bytes.now) into.old.items }
 {
     into[at..at + bytes.len()].copy_from_slice(bytes);
+}
+
+// Makes bytes from a place on 0.
+fn zero_part(bytes: &mut Vec<u8>, at: usize, len: usize)
+    requires { at + len ≤ vec_len bytes.old }
+    ensures { bytes.new.items ≡ take at bytes.old.items ++ replicate len 0 ++ drop (at + len) bytes.old.items }
+{
+    bytes[at..at + len].fill(0);
 }
 
 impl Clone for Blob {

@@ -13,7 +13,7 @@ use Rattle.fs_names.specs.Order.{oid_cmp, oid_field_cmp, oid_cmp_total}
 use Rattle.fs_model.specs.Objects.{Object}
 use Rattle.fs_model.specs.Listing.{IsEachOnce}
 use Rattle.fs_model.proofs.Maps.{oid_ties}
-use Rattle.fs_model.proofs.plain.PlainShelf.names.Goals as goal
+use Rattle.fs_model.proofs.shelf.PlainShelf.names.Goals as goal
 
 each_once : (es : List (Oid × Object)) (l : List Oid) → l ≡ map (λ e. e.0) es → IsDistinct (eq_by_cmp oid_field_cmp) (map (λ e. e.0) es)
     → IsEachOnce l (fin.from_entries es)
