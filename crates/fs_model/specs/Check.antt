@@ -4,6 +4,7 @@ use Rattle.std.specs.List.{fold, list_any}
 use Rattle.std.specs.Option.{option_or, option_map, option_and_then, unwrap_or}
 use Rattle.std.specs.Ordering.{eq_by_cmp}
 use Rattle.std.specs.FinSet as set
+use Rattle.fs_names.specs.declared.coll.Coll.{Coll}
 use Rattle.fs_names.specs.Order.{oid_cmp, coll_cmp}
 use Rattle.fs_model.specs.declared.op.Op.{Op}
 use Rattle.fs_model.specs.declared.op.Op.TheVariants.{Write, Zero, Truncate, SetAttrs, RmAttr, Clone, CloneRange, MoveRename, OmapSet, OmapRemove, OmapRange}
@@ -21,9 +22,12 @@ op_colls S op = fold set.remove (fold set.insert S (made op)) (gone op)
 abbrev pub colls_after : CollSet → List Op → CollSet
 colls_after = fold op_colls
 
--- the operation names a collection that is not there
+abbrev pub is_missing : CollSet → Coll → Bool
+is_missing S c = not (set.contains S c)
+
+-- the operation needs a collection that is not there
 abbrev pub lacks : CollSet → Op → Bool
-lacks S op = list_any (λ c. not (set.contains S c)) (needed op)
+lacks S op = list_any (is_missing S) (needed op)
 
 -- the operation makes a collection that is there
 abbrev pub remakes : CollSet → Op → Bool

@@ -3,7 +3,6 @@ use Rattle.std.specs.FinSet as set
 use Rattle.std.specs.FinMap as map
 use Rattle.fs_names.specs.Order.{coll_cmp}
 use Rattle.fs_model.specs.Objects.{Objects}
-use Rattle.fs_model.specs.declared.check.CollChange.{CollChange}
 
 abbrev pub CollSet : Type 0
 CollSet = set.FinSet coll_cmp
@@ -11,7 +10,3 @@ CollSet = set.FinSet coll_cmp
 -- the collections of objects
 unfoldable pub colls_of : Objects → CollSet
 colls_of O = set.from_list (map.keys O)
-
--- the collections after a change
-abbrev pub changed : CollSet → CollChange → CollSet
-changed S change = set.difference (set.union S change.made) change.gone

@@ -1,5 +1,6 @@
 pub mod Objects
 pub mod Colls
+pub mod Changes
 pub mod Limits
 pub mod Named
 pub mod Rows

@@ -43,6 +43,12 @@ impl Blob {
         &self.bytes
     }
 
+    pub fn copy(&self) -> Result<Blob, AllocError>
+        ensures { IfOk result (λ copy. copy ≡ self.now) }
+    {
+        self.clone()
+    }
+
     pub fn into_vec(self) -> Vec<u8>
         ensures { result.items ≡ self }
     {
@@ -65,12 +71,9 @@ impl Blob {
 
     /// A copy of the bytes from a place on, at most so many.
     pub fn part(&self, alloc: Global, from: usize, len: usize) -> Result<Blob, AllocError>
-        requires { from + len < 2 ^ 63 }
         ensures { IfOk result (λ part. part ≡ take len (drop from self.now)) }
     {
-        let start = from.min(self.bytes.len());
-        let end = (from + len).min(self.bytes.len());
-        Blob::new(alloc, &self.bytes[start..end])
+        Blob::new(alloc, first(after(&self.bytes, from), len))
     }
 
     /// Writes zeros from a place on, in place. Bytes between the old end and that place become 0.
@@ -95,6 +98,20 @@ impl Blob {
         self.bytes.resize(len, 0)?;
         Ok(())
     }
+}
+
+// The bytes from a place on.
+fn after(bytes: &[u8], at: usize) -> &[u8]
+    ensures { result.now ≡ drop at bytes.now }
+{
+    if at < bytes.len() { &bytes[at..] } else { &[] }
+}
+
+// At most so many bytes.
+fn first(bytes: &[u8], len: usize) -> &[u8]
+    ensures { result.now ≡ take len bytes.now }
+{
+    if len < bytes.len() { &bytes[..len] } else { bytes }
 }
 
 // Lengthens a list of bytes by zeros where it is shorter.

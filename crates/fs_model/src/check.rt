@@ -1,11 +1,13 @@
 //! Which transactions are taken.
 ghost use Rattle.std.specs.Prelude.{◌≡◌, ◌≤◌, ℕ, Some, None, Err, OnOk, OnErr, IfOk};
+ghost use Rattle.std.specs.List.{fold, list_any};
 ghost use Rattle.std.specs.FinSet as set;
 ghost use Rattle.fs_model.specs.declared.op.Why.{Why};
-ghost use Rattle.fs_model.specs.Colls.{CollSet, changed};
+ghost use Rattle.fs_model.specs.Changes.{changed};
+ghost use Rattle.fs_model.specs.Colls.{CollSet};
 ghost use Rattle.fs_model.specs.Limits.{ops_limit};
 ghost use Rattle.fs_model.specs.Named.{colls_named, gone, made, first_and_second, few};
-ghost use Rattle.fs_model.specs.Check.{op_colls, colls_after, lacks, remakes, refusal_at, txn_refusal};
+ghost use Rattle.fs_model.specs.Check.{op_colls, colls_after, is_missing, lacks, remakes, refusal_at, txn_refusal};
 
 use crate::{Op, TXN_OPS, Txn, TxnFault, Why};
 use fs_names::Coll;
@@ -138,6 +140,7 @@ impl CollChange {
     }
 
     /// Whether a collection is there after the change of those before.
+    #[tactic(auto, using(crate::proofs::Changes::contains_changed))]
     pub fn has(&self, before: &CollList, c: &Coll) -> bool
         ensures { result ≡ set.contains (changed before.now self.now) c.now }
     {
@@ -157,17 +160,24 @@ impl CollChange {
         self.gone.insert(c)
     }
 
+    // Whether one or both of the collections are missing.
+    fn is_missing(&self, before: &CollList, named: (Coll, Option<Coll>)) -> bool
+        ensures { result ≡ list_any (is_missing (changed before.now self.now)) (first_and_second named) }
+    {
+        let (first, second) = named;
+        match second {
+            None => !self.has(before, &first),
+            Some(second) => !self.has(before, &first) || !self.has(before, &second),
+        }
+    }
+
     // Whether an operation names a collection that isn't there.
     fn is_lacking(&self, before: &CollList, op: &Op) -> bool
         ensures { result ≡ lacks (changed before.now self.now) op.now }
     {
-        if op.made().is_some() {
-            return false;
-        }
-        let (first, second) = op.colls();
-        match second {
-            None => !self.has(before, &first),
-            Some(second) => !self.has(before, &first) || !self.has(before, &second),
+        match op.made() {
+            Some(_) => false,
+            None => self.is_missing(before, op.colls()),
         }
     }
 
@@ -200,16 +210,30 @@ impl CollChange {
         }
     }
 
+    fn make_any(&mut self, c: Option<Coll>) -> Result<(), AllocError>
+        ensures { OnOk result ((S : CollSet) → changed S self.new ≡ fold set.insert (changed S self.old) (few c)) }
+    {
+        match c {
+            None => Ok(()),
+            Some(c) => self.make(c),
+        }
+    }
+
+    fn take_any(&mut self, c: Option<Coll>) -> Result<(), AllocError>
+        ensures { OnOk result ((S : CollSet) → changed S self.new ≡ fold set.remove (changed S self.old) (few c)) }
+    {
+        match c {
+            None => Ok(()),
+            Some(c) => self.take(c),
+        }
+    }
+
     // Adds what an operation makes and takes away.
     fn follow(&mut self, op: &Op) -> Result<(), AllocError>
         ensures { OnOk result ((S : CollSet) → changed S self.new ≡ op_colls (changed S self.old) op.now) }
     {
-        if let Some(c) = op.made() {
-            self.make(c)?;
-        }
-        if let Some(c) = op.gone() {
-            self.take(c)?;
-        }
+        self.make_any(op.made())?;
+        self.take_any(op.gone())?;
         Ok(())
     }
 
@@ -293,7 +317,9 @@ pub fn check_txn(alloc: Global, txn: &Txn, colls: &CollList) -> Result<CollChang
     }
     let mut change = CollChange::new(alloc);
     for (i, op) in ops.iter().enumerate() {
-        change.add(colls, op, i)?;
+        if let Err(fault) = change.add(colls, op, i) {
+            return Err(fault);
+        }
     }
     Ok(change)
 }

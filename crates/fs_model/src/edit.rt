@@ -95,6 +95,12 @@ impl Kept {
         })
     }
 
+    pub(crate) fn set(&mut self, kept: Kept)
+        ensures { self.new ≡ kept }
+    {
+        *self = kept;
+    }
+
     // Does an edit in place. Where memory runs out, the object stays as it was.
     pub(crate) fn edit(&mut self, alloc: Global, edit: &Edit) -> Result<(), AllocError>
         requires { IsInReach edit.now }

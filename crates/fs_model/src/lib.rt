@@ -4,6 +4,7 @@
 mod blob;
 mod blobs;
 mod check;
+mod coll_names;
 mod edit;
 mod laws;
 mod limits;
@@ -18,6 +19,7 @@ mod shelf;
 pub use blob::Blob;
 pub use blobs::BlobList;
 pub use check::{CollChange, CollList, check_txn};
+pub use coll_names::CollNames;
 pub use laws::{colls_law, names_law, overwrite_law, refusal_law};
 pub use limits::{
     ATTR_NAME_BYTES, OBJECT_BYTES, OMAP_KEY_BYTES, OP_PAIRS, TXN_OPS, VALUE_BYTES, WRITE_BYTES,

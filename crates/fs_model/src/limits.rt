@@ -1,11 +1,14 @@
 //! Which operations have a fault of their own, whatever is there.
-ghost use Rattle.std.specs.Prelude.{◌≡◌, ◌+◌, ◌||◌, nat_lt, length, []};
+ghost use Rattle.std.specs.Prelude.{◌≡◌, ◌+◌, ◌&&◌, nat_lt, length, []};
 ghost use Rattle.std.specs.List.{list_any};
+ghost use Rattle.std.specs.Ordering.{eq_by_cmp};
+ghost use Rattle.fs_names.specs.Order.{coll_cmp, oid_cmp};
 ghost use Rattle.std.specs.Option.{unwrap_or};
 ghost use Rattle.fs_model.specs.Check.{bad_attr, bad_attr_name, big_key, big_pair, is_unfit, same_object, too_big};
-ghost use Rattle.fs_model.specs.Limits.{object_limit, pairs_limit, value_limit};
+ghost use Rattle.fs_model.specs.Limits.{object_limit, value_limit};
 
 use crate::{Blob, Op, Pair};
+use fs_names::{Coll, Oid};
 
 /// The most bytes that an object may have.
 pub const OBJECT_BYTES: u64 = 16_777_216;
@@ -36,7 +39,7 @@ impl Op {
         match self {
             Op::Clone { c, o, c2, o2 }
             | Op::CloneRange { c, o, c2, o2, .. }
-            | Op::MoveRename { c, o, c2, o2 } => c == c2 && o == o2,
+            | Op::MoveRename { c, o, c2, o2 } => is_same(c, o, c2, o2),
             _ => false,
         }
     }
@@ -52,15 +55,17 @@ impl Op {
             }
             Op::Zero { at, len, .. } => passes_the_end(*at, *len),
             Op::Truncate { len, .. } => *len > OBJECT_BYTES,
-            Op::SetAttrs { pairs, .. } => has_bad_attrs(pairs.slice()),
+            Op::SetAttrs { pairs, .. } => pairs.slice().len() > OP_PAIRS || any_bad_attr(pairs.slice()),
             Op::RmAttr { name, .. } => is_bad_attr_name(name),
             Op::CloneRange { from, len, to, .. } => {
                 passes_the_end(*from, *len) || passes_the_end(*to, *len)
             }
             Op::OmapSet { header, pairs, .. } => {
-                is_big_header(header) || has_big_pairs(pairs.slice())
+                is_big_header(header)
+                    || pairs.slice().len() > OP_PAIRS
+                    || any_big_pair(pairs.slice())
             }
-            Op::OmapRemove { keys, .. } => has_big_keys(keys.slice()),
+            Op::OmapRemove { keys, .. } => keys.slice().len() > OP_PAIRS || any_big_key(keys.slice()),
             Op::OmapRange { from, to, .. } => is_big_key(from) || is_big_key(to),
             _ => false,
         }
@@ -114,20 +119,30 @@ fn is_big_header(header: &Option<Blob>) -> bool
     }
 }
 
-fn has_bad_attrs(pairs: &[Pair]) -> bool
-    ensures { result ≡ (nat_lt pairs_limit (length pairs.now) || list_any bad_attr pairs.now) }
+fn any_bad_attr(pairs: &[Pair]) -> bool
+    ensures { result ≡ list_any bad_attr pairs.now }
 {
-    pairs.len() > OP_PAIRS || pairs.iter().any(|pair| is_bad_attr(pair))
+    pairs.iter().any(|pair| is_bad_attr(pair))
 }
 
-fn has_big_pairs(pairs: &[Pair]) -> bool
-    ensures { result ≡ (nat_lt pairs_limit (length pairs.now) || list_any big_pair pairs.now) }
+fn any_big_pair(pairs: &[Pair]) -> bool
+    ensures { result ≡ list_any big_pair pairs.now }
 {
-    pairs.len() > OP_PAIRS || pairs.iter().any(|pair| is_big_pair(pair))
+    pairs.iter().any(|pair| is_big_pair(pair))
 }
 
-fn has_big_keys(keys: &[Blob]) -> bool
-    ensures { result ≡ (nat_lt pairs_limit (length keys.now) || list_any big_key keys.now) }
+fn any_big_key(keys: &[Blob]) -> bool
+    ensures { result ≡ list_any big_key keys.now }
 {
-    keys.len() > OP_PAIRS || keys.iter().any(|key| is_big_key(key))
+    keys.iter().any(|key| is_big_key(key))
+}
+
+// Whether two objects are one.
+#[tactic(auto, using(crate::proofs::Maps::ties))]
+fn is_same(c: &Coll, o: &Oid, c2: &Coll, o2: &Oid) -> bool
+    ensures { result ≡ (eq_by_cmp coll_cmp c.now c2.now && eq_by_cmp oid_cmp o.now o2.now) }
+{
+    let colls = c == c2;
+    let names = o == o2;
+    colls && names
 }

@@ -3,7 +3,7 @@ ghost use Rattle.std.specs.Prelude.{◌≡◌, true, OnOk, OnErr, IfOk, map as m
 ghost use Rattle.std.specs.Option.{option_copied};
 ghost use Rattle.std.specs.FinMap as map;
 ghost use Rattle.fs_model.specs.Plain.{entry_of, put_back, undone, IsUndoOf};
-ghost use Rattle.fs_model.specs.Rows.{set_pair, set_pairs, take_keys, take_range};
+ghost use Rattle.fs_model.specs.Rows.{is_between, set_pair, set_pairs, take_keys, take_range};
 
 use crate::{Blob, Pair, PairList};
 use std::alloc::{AllocError, Global};
@@ -56,8 +56,8 @@ impl PairMap {
         let mut pairs = Vec::new(alloc);
         for (key, value) in self.pairs.iter() {
             pairs.push(Pair {
-                key: key.clone()?,
-                value: value.clone()?,
+                key: key.copy()?,
+                value: value.copy()?,
             })?;
         }
         Ok(PairList::from_vec(pairs))
@@ -95,7 +95,7 @@ impl PairMap {
     pub(crate) fn remove_range(&mut self, from: &Blob, to: &Blob)
         ensures { self.new ≡ take_range self.old from.now to.now }
     {
-        self.pairs.retain(|name, _| name < from || name >= to);
+        self.pairs.retain(|name, _| !is_between(name, from, to));
     }
 
     /// Sets names to values, one after the other. Where memory runs out, all stays as it was.
@@ -123,15 +123,24 @@ impl PairMap {
         Ok(())
     }
 
+    // Sets a name to a value, and gives the value that it had before, if any.
+    fn set(&mut self, key: Blob, value: Blob) -> Result<Option<Blob>, AllocError>
+        ensures ok { IfOk result (λ old. old ≡ map.get self.old key) }
+        ensures set { OnOk result (self.new ≡ map.insert self.old key value) }
+        ensures err { OnErr result (self.new ≡ self.old) }
+    {
+        Ok(self.pairs.insert(key, value)?)
+    }
+
     fn set_one(&mut self, pair: &Pair, undo: &mut Vec<Undo>) -> Result<(), AllocError>
         ensures ok { OnOk result (self.new ≡ set_pair self.old pair.now) }
         ensures noted { IsUndoOf self.old undo.old.items → IsUndoOf self.new undo.new.items }
         ensures back { undone self.new undo.new.items ≡ undone self.old undo.old.items }
     {
-        let key = pair.key.clone()?;
-        let value = pair.value.clone()?;
-        let name = pair.key.clone()?;
-        let old = self.pairs.insert(key, value)?;
+        let key = pair.key.copy()?;
+        let value = pair.value.copy()?;
+        let name = pair.key.copy()?;
+        let old = self.set(key, value)?;
         match undo.push(Undo { key: name, old }) {
             Ok(()) => Ok(()),
             Err(failed) => {
@@ -157,15 +166,27 @@ impl PairMap {
         requires { map.contains_key self.old undo.key ≡ true }
         ensures { self.new ≡ put_back self.old undo.key undo.old }
     {
-        match undo.old {
-            None => {
-                self.pairs.remove(&undo.key);
-            }
-            Some(old) => {
-                if let Some(value) = self.pairs.get_mut(&undo.key) {
-                    *value = old;
-                }
-            }
+        let Undo { key, old } = undo;
+        match old {
+            None => self.remove(&key),
+            Some(value) => self.replace(key, value),
         }
     }
+
+    // Gives a name that is there another value, which takes no memory.
+    fn replace(&mut self, key: Blob, value: Blob)
+        requires { map.contains_key self.old key ≡ true }
+        ensures { self.new ≡ map.insert self.old key value }
+    {
+        if let Err(_) = self.pairs.insert(key, value) {
+            return;
+        }
+    }
+}
+
+// Whether a name is from one up to, not including, another.
+fn is_between(name: &Blob, from: &Blob, to: &Blob) -> bool
+    ensures { result ≡ is_between from.now to.now name.now }
+{
+    name.cmp(from).is_ge() && name.cmp(to).is_lt()
 }

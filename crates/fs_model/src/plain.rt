@@ -166,9 +166,7 @@ impl PlainObjects {
     fn remove(&mut self, c: &Coll, o: &Oid)
         ensures { self.new ≡ without_object self.old c.now o.now }
     {
-        if let Some(shelf) = self.shelves.get_mut(c) {
-            shelf.take(o);
-        }
+        self.take(c, o);
     }
 
     // Whether both collections are there.
@@ -194,8 +192,9 @@ impl PlainObjects {
         requires { is_some (look self.old c.now o.now) ≡ true }
         ensures { self.new ≡ with_object self.old c.now o.now kept }
     {
-        if let Some(shelf) = self.shelves.get_mut(c) {
-            shelf.replace(o, kept);
+        match self.shelves.get_mut(c) {
+            None => {}
+            Some(shelf) => shelf.replace(o, kept),
         }
     }
 
@@ -204,9 +203,10 @@ impl PlainObjects {
         ensures ok { OnOk result (self.new ≡ with_object self.old c.now o.now kept) }
         ensures err { OnErr result (self.new ≡ self.old) }
     {
+        let o = o.copy()?;
         match self.shelves.get_mut(c) {
             None => Ok(()),
-            Some(shelf) => shelf.insert(o.copy()?, kept),
+            Some(shelf) => shelf.insert(o, kept),
         }
     }
 
@@ -222,7 +222,6 @@ impl PlainObjects {
 
     // A copy of an object's bytes from a place on, at most so many.
     fn part_of(&self, c: &Coll, o: &Oid, from: u64, len: u64) -> Result<Blob, AllocError>
-        requires { from + len < 2 ^ 63 }
         ensures { IfOk result (λ bytes. bytes ≡ part (read_object self.now c.now o.now) from len) }
     {
         match self.object(c, o) {
@@ -250,7 +249,7 @@ impl PlainObjects {
         o2: &Oid,
         range: (u64, u64, u64),
     ) -> Result<(), AllocError>
-        requires { (range.0 + range.1 < 2 ^ 63) × (range.2 + range.1 < 2 ^ 63) }
+        requires { range.2 + range.1 < 2 ^ 63 }
         ensures ok { OnOk result (self.new ≡ row self.old (Op.CloneRange c.now o.now c2.now o2.now range.0 range.1 range.2)) }
         ensures err { OnErr result (self.new ≡ self.old) }
     {

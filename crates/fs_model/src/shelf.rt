@@ -97,8 +97,9 @@ impl PlainShelf {
         requires { map.contains_key self.old o.now ≡ true }
         ensures { self.new ≡ map.insert self.old o.now kept }
     {
-        if let Some(place) = self.objects.get_mut(o) {
-            *place = kept;
+        match self.objects.get_mut(o) {
+            None => {}
+            Some(place) => place.set(kept),
         }
     }
 }
