@@ -11,9 +11,8 @@ use Rattle.std.specs.List.Sorted.{IsStrictlySortedBy}
 use Rattle.std.specs.Map.{lookup}
 use Rattle.std.specs.FinMap.Entries.{find-where_key, is_sorted, below_all, same_entries}
 use Rattle.std.specs.FinMap.{FinMap, IsAntisymmetric, nat_cmp-IsAntisymmetric, slice_cmp-IsAntisymmetric, entries, entries_sorted, from_entries, get-entries, get, contains_key, insert, remove, retain_keys, find, get-from_entries, get_tied, get-insert, get-remove, get-retain_keys, same_map}
-use Rattle.fs_names.specs.declared.oid.Oid.{Oid}
 use Rattle.fs_names.specs.declared.coll.Coll.{Coll}
-use Rattle.fs_names.specs.Order.{oid_cmp, oid_field_cmp, coll_cmp, coll_field_cmp, oid_cmp_total, oid_field_cmp_total, coll_cmp_total, coll_field_cmp_total, oid_cmp-IsAntisymmetric, oid_field_cmp-IsAntisymmetric, coll_cmp-IsAntisymmetric, coll_field_cmp-IsAntisymmetric, same_ties}
+use Rattle.fs_names.specs.Order.{oid_cmp, coll_cmp, coll_field_cmp, oid_cmp_total, coll_cmp_total, coll_field_cmp_total, oid_cmp-IsAntisymmetric, coll_cmp-IsAntisymmetric, coll_field_cmp-IsAntisymmetric, same_ties}
 
 -- an order of the map that has the ties of the tree's order
 pub record Suits {K : Type 0} (R S : K → K → Ordering) : Type 0 where
@@ -24,8 +23,8 @@ pub record Suits {K : Type 0} (R S : K → K → Ordering) : Type 0 where
 pub bytes_suit : Suits (slice_cmp nat_cmp) (slice_cmp nat_cmp)
 bytes_suit = record { total = nat_list_cmp_total; same = slice_cmp-IsAntisymmetric nat_cmp-IsAntisymmetric; ties = λ x y. refl }
 
-pub oids_suit : Suits oid_field_cmp oid_cmp
-oids_suit = record { total = oid_cmp_total; same = oid_cmp-IsAntisymmetric; ties = same_ties oid_cmp_total oid_field_cmp_total oid_cmp-IsAntisymmetric oid_field_cmp-IsAntisymmetric }
+pub oids_suit : Suits oid_cmp oid_cmp
+oids_suit = record { total = oid_cmp_total; same = oid_cmp-IsAntisymmetric; ties = λ x y. refl }
 
 pub colls_suit : Suits coll_field_cmp coll_cmp
 colls_suit = record { total = coll_cmp_total; same = coll_cmp-IsAntisymmetric; ties = same_ties coll_cmp_total coll_field_cmp_total coll_cmp-IsAntisymmetric coll_field_cmp-IsAntisymmetric }
@@ -140,8 +139,3 @@ entries-view {S = S} o same es sorted =
 
 pub coll_ties : (a b : Coll) → eq_by_cmp coll_cmp a b ≡ eq_by_cmp coll_field_cmp a b
 coll_ties a b = colls_suit.ties a b
-
-pub oid_ties : (a b : Oid) → eq_by_cmp oid_cmp a b ≡ eq_by_cmp oid_field_cmp a b
-oid_ties a b = oids_suit.ties a b
-
-pub ruleset ties = (coll_ties, oid_ties)

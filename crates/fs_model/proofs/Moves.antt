@@ -7,7 +7,7 @@ use Rattle.std.specs.FinMap as map
 use Rattle.fs_names.specs.declared.coll.Coll.{Coll}
 use Rattle.fs_names.specs.declared.oid.Oid.{Oid}
 use Rattle.fs_names.specs.Order.{oid_cmp, coll_cmp, oid_cmp_total, coll_cmp_total, oid_cmp-IsAntisymmetric, coll_cmp-IsAntisymmetric}
-use Rattle.fs_model.specs.Objects.{Shelf, Objects, Object, empty_object, look, read_object, with_object, without_object}
+use Rattle.fs_model.specs.Objects.{Shelf, Objects, Object, empty_object, look, on_shelf, read_object, with_object, without_object}
 use Rattle.fs_model.proofs.Cells.{same_coll, same_oid, same_objects, tie, there-with_object, there-without_object, look-with_object, look-without_object}
 
 -- a collection is missing, or there
@@ -37,16 +37,15 @@ pub look_there : (O : Objects) (c : Coll) (o : Oid) (s : Shelf) → Some s ≡ m
 look_there O c o s there = rw (← there) refl
 
 pub look_none : (O : Objects) (c : Coll) (o : Oid) → None ≡ map.get O c → is_some (look O c o) ≡ true → ⊥
-look_none O c o none is = no_truth (rw (← none) is)
-  where
-    no_truth : false ≡ true → ⊥
-    no_truth e = cc
+look_none O c o none is =
+    let e : false ≡ true = ap (λ m. is_some (on_shelf m o)) none ∙ is in
+    cc
 
 first : (a b : Bool) → (a && b) ≡ true → a ≡ true
 first true b e = refl
 first false b e = e
 
-second : (a b : Bool) → (a && b) ≡ true → b ≡ true
+pub second : (a b : Bool) → (a && b) ≡ true → b ≡ true
 second true b e = e
 second false b e = absurd (cc)
 

@@ -138,7 +138,7 @@ fn any_big_key(keys: &[Blob]) -> bool
 }
 
 // Whether two objects are one.
-#[tactic(auto, using(crate::proofs::Maps::ties))]
+#[tactic(auto, using(crate::proofs::Maps::coll_ties))]
 fn is_same(c: &Coll, o: &Oid, c2: &Coll, o2: &Oid) -> bool
     ensures { result ≡ (eq_by_cmp coll_cmp c.now c2.now && eq_by_cmp oid_cmp o.now o2.now) }
 {

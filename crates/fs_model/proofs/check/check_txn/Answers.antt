@@ -1,10 +1,14 @@
-use Rattle.std.proofs.Common.{◌≡◌, ℕ, None, Some, refl, sym, ap, arith, ◌∙◌}
+use Rattle.std.proofs.Common.{◌≡◌, ℕ, None, Some, Result, Err, refl, sym, ap, arith, ◌∙◌}
 use Rattle.std.specs.FinSet.{union, difference, empty}
+use Rattle.fs_model.specs.declared.op.TxnFault.TheVariants.{At}
 use Rattle.fs_model.specs.Changes.{changed}
 use Rattle.fs_model.specs.Check.{refusal_at, op_colls, txn_refusal}
 use Rattle.fs_model.proofs.Changes.{no_change}
 use Rattle.fs_model.proofs.Refusals.{after_more, accepted_more, below_limit, refused_here}
 use Rattle.fs_model.proofs.check.check_txn.Goals as goal
+
+err_is : {A E : Type 0} (x y : E) → ◌≡◌ {A = Result A E} (Err x) (Err y) → x ≡ y
+err_is x y e = cc
 
 pub loop-i-init : goal.loop-i-init
 loop-i-init c = record {
@@ -32,7 +36,7 @@ pub returns-in-Err-clause-refused : goal.returns-in-Err-clause-refused
 returns-in-Err-clause-refused c = λ op why e.
     let ops = c.slice-ops.result.now in
     let i = c.loop-i.i in
-    let refused = c.in-Err.ensures.refused op why e in
+    let refused = c.in-Err.ensures.refused op why (ap Err (err_is c.in-Err.fault (At op why) e)) in
     ap (txn_refusal c.args.colls.now) (sym c.slice-ops.ensures)
     ∙ refused_here c.args.colls.now (changed c.args.colls.now c.loop-i.change) ops i c.index-ops-i.result why c.index-ops-i.is c.loop-i-test.true c.loop-i.invariant.after c.loop-i.invariant.accepted refused.1
     ∙ ap (λ (k : ℕ). Some (k, why)) (sym refused.0)

@@ -8,4 +8,4 @@ returns-in-None c = rw (← c.self.view_is) (ap (λ m. on_shelf m c.args.o.now) 
 
 pub returns-in-Some : goal.returns-in-Some
 returns-in-Some c =
-    rw (← c.self.view_is) (c.get-2.ensures ∙ ap (λ m. on_shelf m c.args.o.now) (c.in-Some.ensures.value ∙ sym (get-view colls_suit _ _)))
+    rw (← c.self.view_is) (c.get-in-Some.ensures ∙ ap (λ m. on_shelf m c.args.o.now) (c.in-Some.ensures.value ∙ sym (get-view colls_suit _ _)))

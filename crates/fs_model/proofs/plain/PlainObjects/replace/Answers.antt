@@ -5,8 +5,8 @@ use Rattle.fs_model.proofs.Moves.{with_there, look_there, look_none}
 use Rattle.fs_model.proofs.plain.PlainObjects.replace.Goals as goal
 use Rattle.fs_model.proofs.plain.PlainObjects.replace.Goals.{in-Some, in-None}
 
-pub replace-requires-in-Some : goal.replace-requires-in-Some
-replace-requires-in-Some c =
+pub replace-requires : goal.replace-requires
+replace-requires c =
     let es = c.self.inside.shelves.entries in
     ap is_some (look_there (map.from_entries es) c.args.c.now c.args.o.now c.in-Some.shelf.now (c.in-Some.ensures.value ∙ sym (get-view colls_suit es c.args.c.now)))
     ∙ rw c.self.view_is c.requires

@@ -14,7 +14,7 @@ returns-clause-taken c =
     elim c.match-get_mut.branch [
       | in-None w ↦
           rw (w.result-is, ← c.self.view_is)
-          (w.new-in-None.ensures ∙ read_missing O name c.args.o.now (w.in-None.ensures.value ∙ sym (get-view colls_suit es name)))
+          (w.new.ensures ∙ read_missing O name c.args.o.now (w.in-None.ensures.value ∙ sym (get-view colls_suit es name)))
       | in-Some w ↦
           rw (w.result-is, ← c.self.view_is)
           (w.take.ensures.taken ∙ read_there O name c.args.o.now w.in-Some.shelf.now (w.in-Some.ensures.value ∙ sym (get-view colls_suit es name)))
