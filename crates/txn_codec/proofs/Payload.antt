@@ -1,10 +1,10 @@
 -- Each part of a payload is read as it was spelled.
 use Rattle.std.proofs.Common.{◌≡◌, ℕ, zero, suc, ◌+◌, ◌*◌, ◌^◌, ◌<◌, ◌≤◌, Bool, true, false, cond, ltb, eqb, List, [], ◌∷◌, ◌++◌, length, get_or, Option, Some, None, is_none, Result, Ok, Err, refl, sym, ap, subst, ◌∙◌, append_assoc, arith}
 use Rattle.std.specs.Int.{w16, w32, w64}
-use Rattle.std.specs.List.{flat_map, AllByRecursion}
+use Rattle.std.specs.List.{flat_map, All, AllByRecursion}
 use Rattle.std.specs.Prelude.{IfSome}
 use Rattle.std.proofs.lemmas.Bool.{ltb-false, le-ltb, eqb-true}
-use Rattle.std.proofs.lemmas.List.{append-nil, nil_from_length, length-append}
+use Rattle.std.proofs.lemmas.List.{append-nil, nil_from_length, length-append, get_or_default}
 use Rattle.std.proofs.lemmas.Nat.{be_bytes_2, be_bytes_4, be_bytes_8}
 use Rattle.byteorder.specs.Endian.{big_bytes, big_number}
 use Rattle.byteorder.specs.Numbers.{big_number-reads_back, length-bytes_high_first}
@@ -13,7 +13,7 @@ use Rattle.fs_names.specs.declared.coll.Coll.TheVariants.{Meta, Pg}
 use Rattle.fs_names.specs.declared.oid.Oid.{Oid}
 use Rattle.fs_names.specs.declared.oid.Snap.{Snap}
 use Rattle.fs_names.specs.declared.oid.Snap.TheVariants.{Head, Dir, Id}
-use Rattle.fs_names.specs.Names.{IsName, bad_at}
+use Rattle.fs_names.specs.Names.{IsName}
 use Rattle.fs_names.specs.Codes.{oid_pack, oid_unpack}
 use Rattle.fs_names.specs.Reading.{CollFits, OidFits, SnapFits}
 use Rattle.fs_model.specs.declared.op.Op.{Op}
@@ -22,7 +22,7 @@ use Rattle.fs_model.specs.declared.pair.Pair.{Pair}
 use Rattle.txn_codec.specs.declared.fault.CodecFault.{CodecFault}
 use Rattle.txn_codec.specs.declared.fault.CodecFault.TheVariants.{Short, BadTag, BadLength, Trailing}
 use Rattle.txn_codec.specs.Spelling.{sized, flag, coll, snap, pool, oid, blob, pair, header, counted, op, payload, BlobFits, PairFits, HeaderFits, AllFit, OpFits, OpsFit}
-use Rattle.txn_codec.specs.Reading.{Rest, Reader, ◌>>=◌, ◌&◌, mapped, given, field, number, tagged, flag_follows, coll_follows, snap_follows, pool_follows, name_or_fault, name_of, name_at, blob_at, coll_at, oid_at, op_follows, op_at, repeated, counted_at, pair_of, pair_at, pairs_at, blobs_at, header_follows, object_at, touch, write, zero_part, truncate, remove, set_attrs, rm_attr, rm_attrs, clone, clone_range, move_rename, omap_clear, omap_set, omap_remove, omap_range, ops_at, decoded}
+use Rattle.txn_codec.specs.Reading.{Rest, Reader, ◌>>=◌, ◌&◌, mapped, given, field, number, tagged, flag_follows, coll_follows, snap_follows, pool_follows, name_at, blob_at, coll_at, oid_at, op_follows, op_at, repeated, counted_at, pair_of, pair_at, pairs_at, blobs_at, header_follows, object_at, touch, write, zero_part, truncate, remove, set_attrs, rm_attr, rm_attrs, clone, clone_range, move_rename, omap_clear, omap_set, omap_remove, omap_range, ops_at, decoded}
 use Rattle.txn_codec.proofs.Codec.{IsBytes, rest_of, got, bind_ok, guard_ok, test_ok, ok_is, Takes, Codec, TakesField, field_takes, field_again, both, both_spell, both_fit, mapped_takes, mapped_again, TakesTag, Tags, HasTag, tagged_codec, given_takes, given_again, fields_take, fields_again, TakesAll, all_take, all_again}
 
 -- ---- numbers
@@ -110,34 +110,28 @@ blob_codec = record {
       ∙ ap (λ (k : ℕ). got l (rest_of k bytes)) (length_sized 4 (2 ^ 32) wide4 l at);
 }
 
-none_is : {A : Type 0} (o : Option A) → is_none o ≡ true → o ≡ None
-none_is None e = refl
-none_is (Some x) e = absurd (cc)
+small_bytes : (l : List ℕ) → IsBytes l → All (λ b. b < 256) l
+small_bytes l h = λ k d within. subst (λ (b : ℕ). b < 256) (get_or_default l k 0 d within) (h k)
 
 pub name_codec : Codec (sized 2) IsName name_at
 unfolding name_at
 name_codec = record {
   takes = λ r x fits e.
-      let p = bind_ok (number 2 r) (λ len. cond (ltb 1024 len.0) (Err (BadLength r.at)) (name_of len.0 len.1)) x e in
+      let p = bind_ok (number 2 r) (λ len. cond (ltb 1024 len.0) (Err (BadLength r.at)) (field len.0 len.1)) x e in
       let len : ℕ × Rest = p.0 in
-      let g = guard_ok (ltb 1024 len.0) (BadLength r.at) (name_of len.0 len.1) x p.1.1 in
-      let q = bind_ok (field len.0 len.1) (name_or_fault len.1.at) x g.1 in
-      let f : List ℕ × Rest = q.0 in
-      let w = test_ok (is_none (bad_at f.0)) (BadTag len.1.at) f x q.1.1 in
-      let t : Takes (sized 2) (FitsIn (2 ^ 16)) r f = sized_takes 2 (2 ^ 16) wide2 r len f fits p.1.0 q.1.0 in
+      let g = guard_ok (ltb 1024 len.0) (BadLength r.at) (field len.0 len.1) x p.1.1 in
+      let t : Takes (sized 2) (FitsIn (2 ^ 16)) r x = sized_takes 2 (2 ^ 16) wide2 r len x fits p.1.0 g.1 in
       let a : Takes (big_bytes 2) (Below (2 ^ 16)) r len = (number_codec 2 (2 ^ 16) wide2).takes r len fits p.1.0 in
-      let d : TakesField len.0 len.1 f = field_takes len.0 len.1 f a.rest q.1.0 in
+      let d : TakesField len.0 len.1 x = field_takes len.0 len.1 x a.rest g.1 in
       let few : len.0 ≤ 1024 = ltb-false _ _ g.0 in
-      subst (Takes (sized 2) IsName r) w.1
-      (record { parts = t.parts; fit = record { plain = none_is (bad_at f.0) w.0; short = subst (λ (k : ℕ). k ≤ 1024) (sym d.len) few }; rest = t.rest });
+      record { parts = t.parts; fit = record { short = subst (λ (k : ℕ). k ≤ 1024) (sym d.len) few; small = small_bytes x.0 d.bytes }; rest = t.rest };
   again = λ l at bytes fit.
       let few : ltb 1024 (length l) ≡ false = le-ltb _ _ fit.short in
       let m : ℕ = at + length (big_bytes 2 (length l)) in
       ap (λ (w : List ℕ). name_at (rest_of at w)) (append_assoc (big_bytes 2 (length l)) l bytes)
-      ∙ ap (λ (r : Result (ℕ × Rest) CodecFault). r >>= λ len. cond (ltb 1024 len.0) (Err (BadLength at)) (name_of len.0 len.1)) ((number_codec 2 (2 ^ 16) wide2).again (length l) at (l ++ bytes) (omega (arith, fit.short)))
-      ∙ ap (λ (b : Bool). cond b (Err (BadLength at)) (name_of (length l) (rest_of m (l ++ bytes)))) few
-      ∙ ap (λ (r : Result (List ℕ × Rest) CodecFault). r >>= name_or_fault m) (field_again (length l) m l bytes refl)
-      ∙ ap (λ (o : Option ℕ). cond (is_none o) (got l (rest_of (m + length l) bytes)) (Err (BadTag m))) fit.plain
+      ∙ ap (λ (r : Result (ℕ × Rest) CodecFault). r >>= λ len. cond (ltb 1024 len.0) (Err (BadLength at)) (field len.0 len.1)) ((number_codec 2 (2 ^ 16) wide2).again (length l) at (l ++ bytes) (omega (arith, fit.short)))
+      ∙ ap (λ (b : Bool). cond b (Err (BadLength at)) (field (length l) (rest_of m (l ++ bytes)))) few
+      ∙ field_again (length l) m l bytes refl
       ∙ ap (λ (k : ℕ). got l (rest_of k bytes)) (length_sized 2 (2 ^ 16) wide2 l at);
 }
 

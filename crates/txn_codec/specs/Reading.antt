@@ -1,5 +1,5 @@
 -- Reading from left to right, with the first fault that is met.
-use Rattle.std.specs.Prelude.{◌≡◌, ℕ, zero, suc, ◌+◌, Bool, true, false, if◌then◌else◌, ◌==◌, nat_lt, List, [], ◌∷◌, length, take, drop, Option, Some, None, is_none, Result, Ok, Err}
+use Rattle.std.specs.Prelude.{◌≡◌, ℕ, zero, suc, ◌+◌, Bool, true, false, if◌then◌else◌, ◌==◌, nat_lt, List, [], ◌∷◌, length, take, drop, Option, Some, None, Result, Ok, Err}
 use Rattle.std.specs.Option.{option_map_or}
 use Rattle.byteorder.specs.Endian.{big_number}
 use Rattle.fs_names.specs.declared.coll.Coll.{Coll}
@@ -7,7 +7,6 @@ use Rattle.fs_names.specs.declared.coll.Coll.TheVariants.{Meta, Pg}
 use Rattle.fs_names.specs.declared.oid.Oid.{Oid}
 use Rattle.fs_names.specs.declared.oid.Snap.{Snap}
 use Rattle.fs_names.specs.declared.oid.Snap.TheVariants.{Head, Dir, Id}
-use Rattle.fs_names.specs.Names.{bad_at}
 use Rattle.fs_names.specs.Codes.{oid_unpack}
 use Rattle.fs_model.specs.declared.op.Op.{Op}
 use Rattle.fs_model.specs.declared.op.Op.TheVariants.{Touch, Write, Zero, Truncate, Remove, SetAttrs, RmAttr, RmAttrs, Clone, CloneRange, MoveRename, MkColl, RmColl, OmapClear, OmapSet, OmapRemove, OmapRange}
@@ -88,19 +87,11 @@ pool_follows zero = Some (given None)
 pool_follows (suc zero) = Some (mapped Some (number 8))
 pool_follows (suc (suc n)) = None
 
--- Bytes that stand at a place, where they are a name. Names with bytes that a text would have to escape aren't supported yet.
-abbrev pub name_or_fault : ℕ → List ℕ × Rest → Result (List ℕ × Rest) CodecFault
-name_or_fault at bytes = if is_none (bad_at bytes.0) then Ok bytes else Err (BadTag at)
-
-abbrev pub name_of : ℕ → Reader (List ℕ)
-name_of len r = do
-  bytes ← field len r
-  name_or_fault r.at bytes
-
+-- a name is any bytes, but few
 unfoldable pub name_at : Reader (List ℕ)
 name_at r = do
   len ← number 2 r
-  if nat_lt 1024 len.0 then Err (BadLength r.at) else name_of len.0 len.1
+  if nat_lt 1024 len.0 then Err (BadLength r.at) else field len.0 len.1
 
 unfoldable pub blob_at : Reader (List ℕ)
 blob_at r = do

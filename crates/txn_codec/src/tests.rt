@@ -147,7 +147,6 @@ fn a_wrong_byte_is_found_where_its_field_begins(rt: HostRuntime) {
         (18, 2, CodecFault::BadTag { at: 18 }),
         (19, 5, CodecFault::BadLength { at: 19 }),
         (20, 200, CodecFault::Short { at: 21 }),
-        (21, b'_', CodecFault::BadTag { at: 21 }),
         (26, 3, CodecFault::BadTag { at: 26 }),
         (26, 2, CodecFault::Short { at: 40 }),
         (31, 2, CodecFault::BadTag { at: 31 }),
