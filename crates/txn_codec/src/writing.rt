@@ -191,6 +191,15 @@ fn put_coll_op(out: &mut Vec<u8>, tag: u8, c: &Coll) -> Result<(), AllocError>
     Ok(())
 }
 
+fn put_two_blobs(out: &mut Vec<u8>, a: &Blob, b: &Blob) -> Result<(), AllocError>
+    requires { BlobFits a.now × BlobFits b.now }
+    ensures { OnOk result (out.new.items ≡ out.old.items ++ (blob a.now ++ blob b.now)) }
+{
+    put_blob(out, a)?;
+    put_blob(out, b)?;
+    Ok(())
+}
+
 // Two numbers of 8 bytes.
 fn put_two_numbers(out: &mut Vec<u8>, a: u64, b: u64) -> Result<(), AllocError>
     ensures { OnOk result (out.new.items ≡ out.old.items ++ (count8 a ++ count8 b)) }
@@ -206,53 +215,85 @@ fn put_op(out: &mut Vec<u8>, operation: &Op) -> Result<(), AllocError>
     ensures fits { OnOk result (OpFits operation.now) }
 {
     match operation {
-        Op::Touch { c, o } => put_head(out, TOUCH, c, o),
+        Op::Touch { c, o } => {
+            put_head(out, TOUCH, c, o)?;
+            Ok(())
+        }
         Op::Write { c, o, at, bytes } => {
             put_head(out, WRITE, c, o)?;
             put_u64(out, *at)?;
-            put_blob(out, bytes)
+            put_blob(out, bytes)?;
+            Ok(())
         }
         Op::Zero { c, o, at, len } => {
             put_head(out, ZERO, c, o)?;
-            put_two_numbers(out, *at, *len)
+            put_two_numbers(out, *at, *len)?;
+            Ok(())
         }
         Op::Truncate { c, o, len } => {
             put_head(out, TRUNCATE, c, o)?;
-            put_u64(out, *len)
+            put_u64(out, *len)?;
+            Ok(())
         }
-        Op::Remove { c, o } => put_head(out, REMOVE, c, o),
+        Op::Remove { c, o } => {
+            put_head(out, REMOVE, c, o)?;
+            Ok(())
+        }
         Op::SetAttrs { c, o, pairs } => {
             put_head(out, SET_ATTRS, c, o)?;
-            put_pairs(out, pairs.slice())
+            put_pairs(out, pairs.slice())?;
+            Ok(())
         }
         Op::RmAttr { c, o, name } => {
             put_head(out, RM_ATTR, c, o)?;
-            put_blob(out, name)
+            put_blob(out, name)?;
+            Ok(())
         }
-        Op::RmAttrs { c, o } => put_head(out, RM_ATTRS, c, o),
-        Op::Clone { c, o, c2, o2 } => put_two(out, CLONE, (c, o), (c2, o2)),
+        Op::RmAttrs { c, o } => {
+            put_head(out, RM_ATTRS, c, o)?;
+            Ok(())
+        }
+        Op::Clone { c, o, c2, o2 } => {
+            put_two(out, CLONE, (c, o), (c2, o2))?;
+            Ok(())
+        }
         Op::CloneRange { c, o, c2, o2, from, len, to } => {
             put_two(out, CLONE_RANGE, (c, o), (c2, o2))?;
             put_u64(out, *from)?;
-            put_two_numbers(out, *len, *to)
+            put_two_numbers(out, *len, *to)?;
+            Ok(())
         }
-        Op::MoveRename { c, o, c2, o2 } => put_two(out, MOVE_RENAME, (c, o), (c2, o2)),
-        Op::MkColl { c } => put_coll_op(out, MK_COLL, c),
-        Op::RmColl { c } => put_coll_op(out, RM_COLL, c),
-        Op::OmapClear { c, o } => put_head(out, OMAP_CLEAR, c, o),
+        Op::MoveRename { c, o, c2, o2 } => {
+            put_two(out, MOVE_RENAME, (c, o), (c2, o2))?;
+            Ok(())
+        }
+        Op::MkColl { c } => {
+            put_coll_op(out, MK_COLL, c)?;
+            Ok(())
+        }
+        Op::RmColl { c } => {
+            put_coll_op(out, RM_COLL, c)?;
+            Ok(())
+        }
+        Op::OmapClear { c, o } => {
+            put_head(out, OMAP_CLEAR, c, o)?;
+            Ok(())
+        }
         Op::OmapSet { c, o, header, pairs } => {
             put_head(out, OMAP_SET, c, o)?;
             put_header(out, header)?;
-            put_pairs(out, pairs.slice())
+            put_pairs(out, pairs.slice())?;
+            Ok(())
         }
         Op::OmapRemove { c, o, keys } => {
             put_head(out, OMAP_REMOVE, c, o)?;
-            put_blobs(out, keys.slice())
+            put_blobs(out, keys.slice())?;
+            Ok(())
         }
         Op::OmapRange { c, o, from, to } => {
             put_head(out, OMAP_RANGE, c, o)?;
-            put_blob(out, from)?;
-            put_blob(out, to)
+            put_two_blobs(out, from, to)?;
+            Ok(())
         }
     }
 }
