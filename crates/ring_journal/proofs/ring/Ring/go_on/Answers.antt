@@ -1,5 +1,5 @@
 use Rattle.std.proofs.Common.{rules, ◌<◌, ◌^◌, ◌≡◌, ℕ, ◌+◌, ◌-◌, ◌*◌, ◌≤◌, List, [], length, take, drop, min, refl, sym, ap, ◌∙◌, subst, arith}
-use Rattle.std.specs.Prelude.{ltb, cond, Some}
+use Rattle.std.specs.Prelude.{ltb, cond, Some, true}
 use Rattle.dev_api.specs.Disk.{Disk}
 use Rattle.dev_api.specs.Run.{Keeps}
 use Rattle.ring_frame.specs.Frame.{Entry}
@@ -211,6 +211,10 @@ pub returns-clause-numbers : goal.returns-clause-numbers
 returns-clause-numbers g c =
     let v : State = record { head = c.self.inside.head; slot = c.self.inside.slot; used = c.self.inside.used; count = c.self.inside.count; low = c.self.inside.low; clean = c.self.inside.clean } in
     let is : v ≡ c.args.self.now = c.self.view_is in
-    subst (λ (x : State). GoesOn x c.args.epoch c.args.seq _) is
-    (goes_on v c.args.epoch c.args.seq c.below-skipped.result c.in_ok-gone.gone c.number_from-number.result c.self.invariant c.below-skipped.ensures c.in_ok-gone.ensures.room.0 c.in_ok-gone.ensures.all c.number_from-number.ensures c.requires.most
-    _ c.next_header-next.ensures refl refl refl)
+    let k : ℕ = c.below-skipped.result in
+    let gone : ℕ = c.in_ok-gone.gone in
+    let next : Head = c.next_header-next.result in
+    let t : State = record { head = next; slot = 1 - v.slot; used = v.used - gone; count = v.count - k; low = 0; clean = true } in
+    subst (λ (x : State). GoesOn x c.args.epoch c.args.seq t) is
+    (goes_on v c.args.epoch c.args.seq k gone c.number_from-number.result c.self.invariant c.below-skipped.ensures c.in_ok-gone.ensures.room.0 c.in_ok-gone.ensures.all c.number_from-number.ensures c.requires.most
+    t c.next_header-next.ensures refl refl refl)
