@@ -1,6 +1,7 @@
 -- The numbers of entries that are read, and images that are always sound.
-use Rattle.std.proofs.Common.{◌≡◌, inl, inr, ⊎_elim, ℕ, zero, suc, ◌+◌, ◌-◌, ◌<◌, ◌≤◌, List, [], ◌∷◌, length, drop, refl, sym, ◌∙◌, ap, arith}
+use Rattle.std.proofs.Common.{◌≡◌, inl, inr, ⊎_elim, ℕ, suc, ◌+◌, ◌-◌, ◌<◌, ◌≤◌, List, [], ◌∷◌, length, drop, refl, sym, ◌∙◌, ap, arith}
 use Rattle.std.specs.Prelude.{Some, ltb}
+use Rattle.std.proofs.lemmas.List.{drop_all}
 use Rattle.std.proofs.lemmas.Bool.{cases_lt, cond-true, cond-false, lt-ltb, le-ltb}
 use Rattle.dev_api.specs.Disk.{Disk}
 use Rattle.ring_frame.specs.Frame.{Entry, size_of}
@@ -24,15 +25,15 @@ numbered bytes h e =
     let i = head_of_is bytes h e in
     read_numbered (ring_of h (length bytes)) 0 h.seq 0 (turned h.start bytes) (readable bytes) (is_read bytes h (length bytes) e refl i.low (omega (arith, i.high)))
 
+nil_drop : (n : ℕ) (xs : List Entry) → xs ≡ [] → [] ≡ drop n xs
+nil_drop n xs e = sym (ap (drop n) e ∙ drop_all n [] (omega arith))
+
 pub from_numbered : (seq first : ℕ) (es : List Entry) → Numbered first es → from seq es ≡ drop (seq - first) es
-from_numbered seq first [] h = nil_drop (seq - first) where
-  nil_drop : (n : ℕ) → [] ≡ drop n []
-  nil_drop zero = refl
-  nil_drop (suc n) = refl
+from_numbered seq first [] h = nil_drop (seq - first) [] refl
 from_numbered seq first (x ∷ xs) h = ⊎_elim
     (λ (lt : x.seq < seq).
-    let k : (seq - (first + 1)) + 1 ≡ seq - first = omega (arith, h.0, lt) in
-    cond-true _ _ _ (lt-ltb _ _ lt) ∙ from_numbered seq (first + 1) xs h.1 ∙ ap (λ (n : ℕ). drop n (x ∷ xs)) (let e : suc (seq - (first + 1)) ≡ seq - first = omega (arith, k) in e))
+    let k : suc (seq - (first + 1)) ≡ seq - first = omega (arith, h.0, lt) in
+    cond-true _ _ _ (lt-ltb _ _ lt) ∙ from_numbered seq (first + 1) xs h.1 ∙ ap (λ (n : ℕ). drop n (x ∷ xs)) k)
     (λ (le : seq ≤ x.seq). cond-false _ _ _ (le-ltb _ _ le) ∙ ap (λ (n : ℕ). drop n (x ∷ xs)) (let e : 0 ≡ seq - first = omega (arith, h.0, le) in e))
     (cases_lt x.seq seq)
 
