@@ -6,7 +6,6 @@ ghost use Rattle.fs_model.specs.Objects.{empty_object};
 ghost use Rattle.fs_model.specs.Plain.{edited, IsInReach};
 ghost use Rattle.fs_model.specs.Listing.{IsEachOnce, from_cursor, page_of};
 
-use crate::OidList;
 use crate::edit::{Edit, Kept};
 use crate::{OidList, Page};
 use fs_names::Oid;
