@@ -97,7 +97,7 @@ impl PlainObjects {
     /// A page of a collection's listing in hash order, from the first object at or after one on, or from the first of
     /// all. It costs what the page holds, and a search. None where the collection is missing.
     pub fn page(&self, c: &Coll, from: Option<&Oid>, max: u32) -> Result<Option<Page>, AllocError>
-        ensures { IfOk result (λ page. page ≡ listing self.now c.now (option_copied from) max) }
+        ensures { IfOk result (λ page. page ≡ listing self.now c.now (option_copied from.old) max) }
     {
         match self.shelves.get(c) {
             None => Ok(None),
@@ -144,14 +144,25 @@ impl PlainObjects {
             Op::RmAttr { c, o, name } => self.edit(c, o, &Edit::RmAttr { name }),
             Op::RmAttrs { c, o } => self.edit(c, o, &Edit::RmAttrs),
             Op::Clone { c, o, c2, o2 } => self.copy_object(c, o, c2, o2),
-            Op::CloneRange { c, o, c2, o2, from, len, to } => {
-                self.copy_part(c, o, c2, o2, (*from, *len, *to))
-            }
+            Op::CloneRange {
+                c,
+                o,
+                c2,
+                o2,
+                from,
+                len,
+                to,
+            } => { self.copy_part(c, o, c2, o2, (*from, *len, *to)) }
             Op::MoveRename { c, o, c2, o2 } => self.move_object(c, o, c2, o2),
             Op::MkColl { c } => self.make(c),
             Op::RmColl { c } => Ok(self.drop_coll(c)),
             Op::OmapClear { c, o } => self.edit(c, o, &Edit::OmapClear),
-            Op::OmapSet { c, o, header, pairs } => {
+            Op::OmapSet {
+                c,
+                o,
+                header,
+                pairs,
+            } => {
                 let pairs = pairs.slice();
                 self.edit(c, o, &Edit::OmapSet { header, pairs })
             }

@@ -59,7 +59,7 @@ impl PlainShelf {
 
     // A page of the names in hash order, from one on. It costs what the page holds, and a search.
     pub(crate) fn page(&self, from: Option<&Oid>, max: u32) -> Result<Page, AllocError>
-        ensures { IfOk result (λ page. page ≡ page_of (from_cursor self.now (option_copied from)) max) }
+        ensures { IfOk result (λ page. page ≡ page_of (from_cursor self.now (option_copied from.old)) max) }
     {
         match from {
             None => self.first_page(max),
@@ -71,7 +71,7 @@ impl PlainShelf {
         ensures { IfOk result (λ page. page ≡ page_of (from_cursor self.now None) max) }
     {
         let mut oids = Vec::new(self.alloc);
-        for (oid, _) in self.objects.iter() {
+        for (oid, _kept) in self.objects.iter() {
             let oid = oid.copy()?;
             if oids.len() == max as usize {
                 return Ok(Page {
@@ -91,7 +91,7 @@ impl PlainShelf {
         ensures { IfOk result (λ page. page ≡ page_of (from_cursor self.now (Some first)) max) }
     {
         let mut oids = Vec::new(self.alloc);
-        for (oid, _) in self.objects.range(first..) {
+        for (oid, _kept) in self.objects.range(first..) {
             let oid = oid.copy()?;
             if oids.len() == max as usize {
                 return Ok(Page {
