@@ -271,12 +271,16 @@ fn omap_set(alloc: Global, header: Option<&[u8]>, text: &[u8]) -> Result<Op, Nam
     })
 }
 
+fn one_key(alloc: Global, key: &[u8]) -> Result<BlobList, AllocError> {
+    let key = blob(alloc, key)?;
+    Ok(BlobList::from_vec(vec![in alloc; key]?))
+}
+
 fn omap_remove(alloc: Global, key: &[u8]) -> Result<Op, NameFault> {
-    let keys = vec![in alloc; blob(alloc, key)?]?;
     Ok(Op::OmapRemove {
         c: group(0),
         o: named(alloc, b"a")?,
-        keys: BlobList::from_vec(keys),
+        keys: one_key(alloc, key)?,
     })
 }
 

@@ -7,8 +7,8 @@ ghost use Rattle.fs_model.specs.Limits.{ops_limit};
 ghost use Rattle.txn_codec.specs.Spelling.{sized, flag, coll, snap, pool, oid, object, count8, blob, pair, header, counted, op, payload, BlobFits, PairFits, AllFit, HeaderFits, ObjectFits, OpFits, OpsFit, IsShort};
 
 use crate::tags::{
-    CLONE, CLONE_RANGE, MK_COLL, MOVE_RENAME, OMAP_CLEAR, OMAP_RANGE, OMAP_REMOVE, OMAP_SET, REMOVE,
-    RM_ATTR, RM_ATTRS, RM_COLL, SET_ATTRS, TOUCH, TRUNCATE, WRITE, ZERO,
+    CLONE, CLONE_RANGE, MK_COLL, MOVE_RENAME, OMAP_CLEAR, OMAP_RANGE, OMAP_REMOVE, OMAP_SET,
+    REMOVE, RM_ATTR, RM_ATTRS, RM_COLL, SET_ATTRS, TOUCH, TRUNCATE, WRITE, ZERO,
 };
 use fs_model::{Blob, Op, Pair, Txn};
 use fs_names::{Coll, Name, Oid, Snap};
@@ -171,14 +171,16 @@ fn put_head(out: &mut Vec<u8>, tag: u8, c: &Coll, o: &Oid) -> Result<(), AllocEr
 fn put_two(
     out: &mut Vec<u8>,
     tag: u8,
-    first: (&Coll, &Oid),
-    second: (&Coll, &Oid),
+    c: &Coll,
+    o: &Oid,
+    c2: &Coll,
+    o2: &Oid,
 ) -> Result<(), AllocError>
-    ensures spelled { OnOk result (out.new.items ≡ out.old.items ++ tag ∷ (object first.0.now first.1.now ++ object second.0.now second.1.now)) }
-    ensures fits { OnOk result (ObjectFits first.0.now first.1.now × ObjectFits second.0.now second.1.now) }
+    ensures spelled { OnOk result (out.new.items ≡ out.old.items ++ tag ∷ (object c.now o.now ++ object c2.now o2.now)) }
+    ensures fits { OnOk result (ObjectFits c.now o.now × ObjectFits c2.now o2.now) }
 {
-    put_head(out, tag, first.0, first.1)?;
-    put_object(out, second.0, second.1)?;
+    put_head(out, tag, c, o)?;
+    put_object(out, c2, o2)?;
     Ok(())
 }
 
@@ -254,17 +256,25 @@ fn put_op(out: &mut Vec<u8>, operation: &Op) -> Result<(), AllocError>
             Ok(())
         }
         Op::Clone { c, o, c2, o2 } => {
-            put_two(out, CLONE, (c, o), (c2, o2))?;
+            put_two(out, CLONE, c, o, c2, o2)?;
             Ok(())
         }
-        Op::CloneRange { c, o, c2, o2, from, len, to } => {
-            put_two(out, CLONE_RANGE, (c, o), (c2, o2))?;
+        Op::CloneRange {
+            c,
+            o,
+            c2,
+            o2,
+            from,
+            len,
+            to,
+        } => {
+            put_two(out, CLONE_RANGE, c, o, c2, o2)?;
             put_u64(out, *from)?;
             put_two_numbers(out, *len, *to)?;
             Ok(())
         }
         Op::MoveRename { c, o, c2, o2 } => {
-            put_two(out, MOVE_RENAME, (c, o), (c2, o2))?;
+            put_two(out, MOVE_RENAME, c, o, c2, o2)?;
             Ok(())
         }
         Op::MkColl { c } => {
@@ -279,7 +289,12 @@ fn put_op(out: &mut Vec<u8>, operation: &Op) -> Result<(), AllocError>
             put_head(out, OMAP_CLEAR, c, o)?;
             Ok(())
         }
-        Op::OmapSet { c, o, header, pairs } => {
+        Op::OmapSet {
+            c,
+            o,
+            header,
+            pairs,
+        } => {
             put_head(out, OMAP_SET, c, o)?;
             put_header(out, header)?;
             put_pairs(out, pairs.slice())?;
