@@ -35,4 +35,6 @@ pub use pair_map::PairMap;
 pub use plain::PlainObjects;
 
 #[cfg(test)]
+mod listing_tests;
+#[cfg(test)]
 mod tests;
