@@ -16,7 +16,7 @@ mod order;
 mod settings;
 mod split;
 
-pub use coll::Coll;
+pub use coll::{Coll, GroupId, group};
 pub use coll_reading::decode_coll;
 pub use coll_text::{CollText, encode_coll};
 pub use fault::{CollFault, NameFault};
