@@ -1,32 +1,31 @@
 -- An object's text is read as the object, and what is read as an object is the object's text.
-use Rattle.std.proofs.Common.{◌≡◌, ◌≢◌, ℕ, ◌+◌, ◌<◌, ◌≤◌, Bool, true, false, ltb, cond, List, [], ◌∷◌, ◌++◌, length, Option, Some, None, Result, Ok, Err, refl, sym, ap, subst, ◌∙◌, arith}
-use Rattle.std.proofs.lemmas.Bool.{and_parts, ltb-false, le-ltb}
+use Rattle.std.proofs.Common.{◌≡◌, ℕ, true, false, List, [], ◌∷◌, ◌++◌, Option, Some, None, Ok, refl, sym, ap, subst, ◌∙◌, arith}
+use Rattle.std.proofs.lemmas.Bool.{and_parts}
 use Rattle.std.proofs.lemmas.Bool.Decides.{nat_tests}
 use Rattle.std.proofs.lemmas.List.{append_assoc}
 use Rattle.std.proofs.lemmas.List.Elements.{All-weaker, All-append, All-cons}
 use Rattle.std.proofs.lemmas.List.Splits.{slice_split_at, slice_split_none, join_with_byte-slice_split}
 use Rattle.std.specs.Char.{is_ascii_graphic}
+use Rattle.std.specs.Cmp.Lexicographic.{slice_cmp}
+use Rattle.std.specs.FinMap.{nat_cmp-IsAntisymmetric, slice_cmp-IsAntisymmetric}
 use Rattle.std.specs.List.{All, AllPass, slice_split, join_with_byte}
-use Rattle.std.specs.Option.{option_map, option_or}
+use Rattle.std.specs.Option.{ok_or}
+use Rattle.std.specs.Ordering.{nat_cmp, ordering_then}
+use Rattle.std.specs.declared.cmp.Ordering.{Ordering}
+use Rattle.std.specs.declared.cmp.Ordering.TheVariants.{Less, Equal, Greater}
 use Rattle.fs_names.specs.declared.fault.NameFault.{NameFault}
-use Rattle.fs_names.specs.declared.fault.NameFault.TheVariants.{BadEscape, TooLong}
+use Rattle.fs_names.specs.declared.fault.NameFault.TheVariants.{BadField}
 use Rattle.fs_names.specs.declared.oid.Oid.{Oid}
-use Rattle.fs_names.specs.declared.oid.Snap.{Snap}
-use Rattle.fs_names.specs.Laws.{OidTextsAreRead, OidsReadAreSpelled, OidTextsPrint}
-use Rattle.fs_names.specs.Names.{IsName, is_plain, bad_at, escape_fault, length_fault}
-use Rattle.fs_names.specs.Reading.{OidFits, is_underscore, oid_of, oid_of_fields, oid_of_six, oid_from, names_fault, snap_of, hash_of, pool_of}
-use Rattle.fs_names.specs.Text.{oid_text, snap_text, hash_text, pool_text}
+use Rattle.fs_names.specs.Laws.{OidTextsAreRead, OidsReadAreSpelled, OidTextsPrint, OidOrderIsByTexts}
+use Rattle.fs_names.specs.Order.{oid_cmp, oid_key}
+use Rattle.fs_names.specs.Reading.{OidFits, is_underscore, oid_of, oid_of_fields, oid_of_six, names_of, snap_of, hash_of, pool_of}
+use Rattle.fs_names.specs.Text.{oid_text, name_text, field_text, snap_text, hash_text, pool_text, hash_digits}
 use Rattle.fs_names.proofs.Hashes.{hash_of_gives, hash_of_reads}
-use Rattle.fs_names.proofs.PlainNames.{all_plain, oid_text-plain}
-use Rattle.fs_names.proofs.Six.{six_ok}
-use Rattle.fs_names.proofs.Spellings.{is_inner, snap_text-inner, hash_text-inner, pool_text-inner, snap_of_text, pool_of_text, snap_given, pool_given}
-
--- a name's bytes stand between the bytes `_`
-plain_inner : (b : ℕ) → is_plain b ≡ true → is_inner b ≡ true
-plain_inner b h = grind (arith, nat_tests)
-
-name-inner : (bytes : List ℕ) → IsName bytes → AllPass is_inner bytes
-name-inner bytes name = All-weaker (λ b. is_plain b ≡ true) (λ b. is_inner b ≡ true) plain_inner bytes (all_plain bytes name.plain)
+use Rattle.fs_names.proofs.Inner.{is_inner, name_text-inner, field_text-inner, snap_text-inner, hash_text-inner, pool_text-inner}
+use Rattle.fs_names.proofs.ReadLaws.{name_reads, name_gives, field_reads, field_gives}
+use Rattle.fs_names.proofs.Six.{went, names_limits, limits_ok, names_are, six_ok, from_names, with_snap, with_hash, with_pool}
+use Rattle.fs_names.proofs.SpelledOrder.{same_list}
+use Rattle.fs_names.proofs.Spellings.{snap_of_text, pool_of_text, snap_given, pool_given}
 
 inner_apart : (b : ℕ) → is_inner b ≡ true → is_underscore b ≡ false
 inner_apart b h = grind (arith, nat_tests)
@@ -35,7 +34,7 @@ apart : (bytes : List ℕ) → AllPass is_inner bytes → All (λ b. is_undersco
 apart bytes all = All-weaker (λ b. is_inner b ≡ true) (λ b. is_underscore b ≡ false) inner_apart bytes all
 
 -- six fields, joined and split again
-abbrev joined : List ℕ → List ℕ → List ℕ → List ℕ → List ℕ → List ℕ → List ℕ
+abbrev pub joined : List ℕ → List ℕ → List ℕ → List ℕ → List ℕ → List ℕ → List ℕ
 joined a b c d e f = a ++ 95 ∷ b ++ 95 ∷ c ++ 95 ∷ d ++ 95 ∷ e ++ 95 ∷ f
 
 to_the_right : (a b c d e f : List ℕ) → a ++ b ++ c ++ d ++ e ++ f ≡ a ++ (b ++ (c ++ (d ++ (e ++ f))))
@@ -55,104 +54,86 @@ split_joined a b c d e f p q r s t u =
     ∙ ap (λ l. d ∷ l) (slice_split_at is_underscore e 95 _ (apart e t) refl
     ∙ ap (λ l. e ∷ l) (slice_split_none is_underscore f (apart f u))))))
 
--- names have no fault
-no_escape : (place : ℕ) (bytes : List ℕ) → IsName bytes → escape_fault place bytes ≡ None
-no_escape place bytes name = ap (option_map (λ at. BadEscape (place + at))) name.plain
+-- names are read as they are spelled
+names_read : (o : Oid) → OidFits o
+    → names_of (name_text o.name) (field_text o.key) (snap_text o.snap) (hash_text o.hash) (field_text o.nspace) ≡ Ok (o.name, o.key, o.nspace)
+names_read o fits =
+    names_limits (name_text o.name) (field_text o.key) (snap_text o.snap) (hash_text o.hash) (field_text o.nspace) o.name o.key o.nspace (record {
+      name_is = name_reads o.name fits.name.small;
+      key_is = field_reads _ o.key fits.key.small;
+      nspace_is = field_reads _ o.nspace fits.nspace.small;
+    })
+    ∙ limits_ok (name_text o.name) (field_text o.key) (snap_text o.snap) (hash_text o.hash) (field_text o.nspace) o.name o.key o.nspace fits.name.short fits.key.short fits.nspace.short
 
-no_length : (field : ℕ) (bytes : List ℕ) → IsName bytes → length_fault field bytes ≡ None
-no_length field bytes name = ap (λ b. cond b (Some (TooLong field)) None) (le-ltb 1024 (length bytes) name.short)
-
-or_none : {A : Type 0} (o p : Option A) → o ≡ None → p ≡ None → option_or o p ≡ None
-or_none o p e f = ap (λ x. option_or x p) e ∙ f
-
-no_names_fault : (name key snap hash nspace : List ℕ) → IsName name → IsName key → IsName nspace → names_fault name key snap hash nspace ≡ None
-no_names_fault name key snap hash nspace n k s =
-    or_none _ _ (no_escape _ name n) (or_none _ _ (no_escape _ key k) (or_none _ _ (no_escape _ nspace s)
-    (or_none _ _ (no_length 0 name n) (or_none _ _ (no_length 1 key k) (no_length 4 nspace s)))))
+pub text_joined : (o : Oid) → oid_text o ≡ joined (name_text o.name) (field_text o.key) (snap_text o.snap) (hash_text o.hash) (field_text o.nspace) (pool_text o.pool)
+unfolding oid_text
+text_joined o = refl
 
 pub oid_texts_are_read : OidTextsAreRead
 unfolding oid_of
 oid_texts_are_read o fits =
-    ap oid_of (oid_text-plain o fits.name fits.key fits.nspace)
-    ∙ ap oid_of_fields (split_joined o.name o.key (snap_text o.snap) (hash_text o.hash) o.nspace (pool_text o.pool)
-    (name-inner o.name fits.name) (name-inner o.key fits.key) (snap_text-inner o.snap) (hash_text-inner o.hash) (name-inner o.nspace fits.nspace) (pool_text-inner o.pool))
-    ∙ six_ok o.name o.key (snap_text o.snap) (hash_text o.hash) o.nspace (pool_text o.pool) o.snap o.hash o.pool
-    (no_names_fault o.name o.key (snap_text o.snap) (hash_text o.hash) o.nspace fits.name fits.key fits.nspace)
-    (snap_of_text o.snap fits.snap) (hash_of_reads o.hash fits.hash) (pool_of_text o.pool fits.pool)
+    ap oid_of (text_joined o)
+    ∙ ap oid_of_fields (split_joined (name_text o.name) (field_text o.key) (snap_text o.snap) (hash_text o.hash) (field_text o.nspace) (pool_text o.pool)
+    (name_text-inner o.name fits.name.small) (field_text-inner o.key fits.key.small) (snap_text-inner o.snap) (hash_text-inner o.hash)
+    (field_text-inner o.nspace fits.nspace.small) (pool_text-inner o.pool))
+    ∙ six_ok (name_text o.name) (field_text o.key) (snap_text o.snap) (hash_text o.hash) (field_text o.nspace) (pool_text o.pool) o.name o.key o.nspace o.snap o.hash o.pool
+    (names_read o fits) (snap_of_text o.snap fits.snap) (hash_of_reads o.hash fits.hash) (pool_of_text o.pool fits.pool)
 
--- what no fault tells
-or_parts : {A : Type 0} (o p : Option A) → option_or o p ≡ None → (o ≡ None) × (p ≡ None)
-or_parts None p e = (refl, e)
-or_parts (Some x) p e = cc
-
-map_none : {A B : Type 0} (f : A → B) (o : Option A) → option_map f o ≡ None → o ≡ None
-map_none f None e = refl
-map_none f (Some x) e = cc
-
-short_from : (b : Bool) (field : ℕ) → cond b (Some (TooLong field)) None ≡ None → b ≡ false
-short_from true field e = cc
-short_from false field e = refl
-
-name_from : (place field : ℕ) (bytes : List ℕ) → escape_fault place bytes ≡ None → length_fault field bytes ≡ None → IsName bytes
-name_from place field bytes e l =
-    record { plain = map_none (λ at. BadEscape (place + at)) (bad_at bytes) e; short = ltb-false 1024 (length bytes) (short_from (ltb 1024 (length bytes)) field l) }
-
-names_from : (name key snap hash nspace : List ℕ) → names_fault name key snap hash nspace ≡ None → IsName name × IsName key × IsName nspace
-names_from name key snap hash nspace h =
-    let one = or_parts _ _ h in
-    let two = or_parts _ _ one.1 in
-    let three = or_parts _ _ two.1 in
-    let four = or_parts _ _ three.1 in
-    let five = or_parts _ _ four.1 in
-    (name_from 0 0 name one.0 four.0, name_from _ 1 key two.0 five.0, name_from _ 4 nspace three.0 five.1)
+-- what a value that is asked for tells
+asked : {A : Type 0} (o : Option A) (f : NameFault) (x : A) → ok_or o f ≡ Ok x → o ≡ Some x
+asked (Some y) f x e = cc
+asked None f x e = cc
 
 -- what an object that was read tells of the fields
-record Read (fault : Option NameFault) (name key nspace : List ℕ) (snap : Option Snap) (hash : Option ℕ) (pool : Option (Option ℕ)) (o : Oid) : Type 0 where
-  no_fault : fault ≡ None
-  name_is : name ≡ o.name
-  key_is : key ≡ o.key
-  nspace_is : nspace ≡ o.nspace
-  snap_is : snap ≡ Some o.snap
-  hash_is : hash ≡ Some o.hash
-  pool_is : pool ≡ Some o.pool
+record Read (a b c d e f : List ℕ) (o : Oid) : Type 0 where
+  names : names_of a b c d e ≡ Ok (o.name, o.key, o.nspace)
+  snap_is : snap_of c ≡ Some o.snap
+  hash_is : hash_of d ≡ Some o.hash
+  pool_is : pool_of f ≡ Some o.pool
 
-read_from : (fault : Option NameFault) (name key nspace : List ℕ) (snap : Option Snap) (hash : Option ℕ) (pool : Option (Option ℕ)) (o : Oid)
-    → oid_from fault name key nspace snap hash pool ≡ Ok o → Read fault name key nspace snap hash pool o
-read_from (Some f) name key nspace snap hash pool o e = cc
-read_from None name key nspace None hash pool o e = cc
-read_from None name key nspace (Some s) None pool o e = cc
-read_from None name key nspace (Some s) (Some h) None o e = cc
-read_from None name key nspace (Some s) (Some h) (Some p) o e =
-    let same : ◌≡◌ {A = Oid} (record { name = name; key = key; nspace = nspace; snap = s; hash = h; pool = p }) o = cc in
+read_from : (a b c d e f : List ℕ) (o : Oid) → oid_of_six a b c d e f ≡ Ok o → Read a b c d e f o
+unfolding oid_of_six
+read_from a b c d e f o h =
+    let n = went (names_of a b c d e) (from_names a b c d e f) o h in
+    let s = went (ok_or (snap_of c) (BadField 2)) (with_snap a b c d e f n.value) o n.then in
+    let g = went (ok_or (hash_of d) (BadField 3)) (with_hash a b c d e f n.value s.value) o s.then in
+    let p = went (ok_or (pool_of f) (BadField 5)) (with_pool a b c d e f n.value s.value g.value) o g.then in
+    let whole : Ok (record { name = n.value.0; key = n.value.1; nspace = n.value.2; snap = s.value; hash = g.value; pool = p.value }) ≡ Ok o = p.then in
+    let same : ◌≡◌ {A = Oid} (record { name = n.value.0; key = n.value.1; nspace = n.value.2; snap = s.value; hash = g.value; pool = p.value }) o = cc in
     record {
-      no_fault = refl;
-      name_is = ap (λ x. x.name) same;
-      key_is = ap (λ x. x.key) same;
-      nspace_is = ap (λ x. x.nspace) same;
-      snap_is = ap (λ x. Some x.snap) same;
-      hash_is = ap (λ x. Some x.hash) same;
-      pool_is = ap (λ x. Some x.pool) same;
+      names = n.first ∙ ap (λ x. Ok (x.name, x.key, x.nspace)) same;
+      snap_is = asked (snap_of c) (BadField 2) s.value s.first ∙ ap (λ x. Some x.snap) same;
+      hash_is = asked (hash_of d) (BadField 3) g.value g.first ∙ ap (λ x. Some x.hash) same;
+      pool_is = asked (pool_of f) (BadField 5) p.value p.first ∙ ap (λ x. Some x.pool) same;
     }
 
 six_spelled : (a b c d e f : List ℕ) (o : Oid) → oid_of_six a b c d e f ≡ Ok o → (oid_text o ≡ joined a b c d e f) × OidFits o
-unfolding oid_of_six
 six_spelled a b c d e f o h =
-    let r = read_from (names_fault a b c d e) a b e (snap_of c) (hash_of d) (pool_of f) o h in
-    let n = names_from a b c d e r.no_fault in
-    let name = subst IsName r.name_is n.0 in
-    let key = subst IsName r.key_is n.1 in
-    let nspace = subst IsName r.nspace_is n.2 in
+    let r = read_from a b c d e f o h in
+    let n = names_are a b c d e (o.name, o.key, o.nspace) r.names in
+    let name = name_gives a o.name n.read.name_is in
+    let key = field_gives _ b o.key n.read.key_is in
+    let nspace = field_gives _ e o.nspace n.read.nspace_is in
     let snap = snap_given c o.snap r.snap_is in
     let hash = hash_of_gives d o.hash r.hash_is in
     let pool = pool_given f o.pool r.pool_is in
-    let text : oid_text o ≡ joined o.name o.key (snap_text o.snap) (hash_text o.hash) o.nspace (pool_text o.pool) = oid_text-plain o name key nspace in
-    let nested_name : a ≡ o.name = r.name_is in
-    let nested_key : b ≡ o.key = r.key_is in
-    let nested_space : e ≡ o.nspace = r.nspace_is in
-    let same_snap : snap_text o.snap ≡ c = snap.0 in
-    let same_hash : d ≡ hash_text o.hash = hash.1 in
-    let same_pool : pool_text o.pool ≡ f = pool.0 in
-    (cc, record { name = name; key = key; nspace = nspace; snap = snap.1; hash = hash.0; pool = pool.1 })
+    let name_is : name_text o.name ≡ a = name.0 in
+    let key_is : field_text o.key ≡ b = key.0 in
+    let nspace_is : field_text o.nspace ≡ e = nspace.0 in
+    let snap_is : snap_text o.snap ≡ c = snap.0 in
+    let hash_is : hash_text o.hash ≡ d = sym hash.1 in
+    let pool_is : pool_text o.pool ≡ f = pool.0 in
+    let text : oid_text o ≡ joined (name_text o.name) (field_text o.key) (snap_text o.snap) (hash_text o.hash) (field_text o.nspace) (pool_text o.pool) = text_joined o in (
+      cc,
+      record {
+        name = record { short = n.name_short; small = name.1 };
+        key = record { short = n.key_short; small = key.1 };
+        nspace = record { short = n.nspace_short; small = nspace.1 };
+        snap = snap.1;
+        hash = hash.0;
+        pool = pool.1;
+      },
+    )
 
 fields_spelled : (parts : List (List ℕ)) (o : Oid) → oid_of_fields parts ≡ Ok o → (oid_text o ≡ join_with_byte 95 parts) × OidFits o
 fields_spelled [] o h = cc
@@ -185,6 +166,35 @@ with_field text field all inner =
 
 pub oid_texts_print : OidTextsPrint
 oid_texts_print o fits =
-    subst (AllPass is_ascii_graphic) (sym (oid_text-plain o fits.name fits.key fits.nspace))
-    (with_field _ _ (with_field _ _ (with_field _ _ (with_field _ _ (with_field _ _ (prints o.name (name-inner o.name fits.name)) (name-inner o.key fits.key))
-    (snap_text-inner o.snap)) (hash_text-inner o.hash)) (name-inner o.nspace fits.nspace)) (pool_text-inner o.pool))
+    subst (AllPass is_ascii_graphic) (sym (text_joined o))
+    (with_field _ _ (with_field _ _ (with_field _ _ (with_field _ _ (with_field _ _ (prints _ (name_text-inner o.name fits.name.small)) (field_text-inner o.key fits.key.small))
+    (snap_text-inner o.snap)) (hash_text-inner o.hash)) (field_text-inner o.nspace fits.nspace.small)) (pool_text-inner o.pool))
+
+-- No two objects have one text, and so the texts alone decide where the hashes are one.
+pub same_text : (a b : Oid) → OidFits a → OidFits b → oid_text a ≡ oid_text b → a ≡ b
+same_text a b f g e =
+    let read : Ok a ≡ Ok b = sym (oid_texts_are_read a f) ∙ ap oid_of e ∙ oid_texts_are_read b g in
+    cc
+
+then_none : (r : Ordering) → ordering_then r Equal ≡ r
+then_none Less = refl
+then_none Equal = refl
+then_none Greater = refl
+
+no_key : (a b : Oid) → OidFits a → OidFits b → (r : Ordering) → slice_cmp nat_cmp (oid_text a) (oid_text b) ≡ r
+    → ordering_then r (slice_cmp (slice_cmp nat_cmp) (oid_key a) (oid_key b)) ≡ r
+no_key a b f g Less e = refl
+no_key a b f g Greater e = refl
+no_key a b f g Equal e =
+    let text = slice_cmp-IsAntisymmetric nat_cmp-IsAntisymmetric (oid_text a) (oid_text b) e in
+    let same = same_text a b f g text in
+    ap (λ x. slice_cmp (slice_cmp nat_cmp) (oid_key x) (oid_key b)) same ∙ keys_same (oid_key b)
+  where
+    keys_same : (ks : List (List ℕ)) → slice_cmp (slice_cmp nat_cmp) ks ks ≡ Equal
+    keys_same [] = refl
+    keys_same (k ∷ ks) = ap (λ o. ordering_then o (slice_cmp (slice_cmp nat_cmp) ks ks)) (same_list k) ∙ keys_same ks
+
+pub oid_order_by_texts : OidOrderIsByTexts
+unfolding oid_cmp
+oid_order_by_texts a b f g =
+    ap (ordering_then (slice_cmp nat_cmp (hash_digits a.hash) (hash_digits b.hash))) (no_key a b f g (slice_cmp nat_cmp (oid_text a) (oid_text b)) refl)

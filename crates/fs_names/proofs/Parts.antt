@@ -1,39 +1,23 @@
 -- A comparison of names, part by part.
-use Rattle.std.proofs.Common.{◌≡◌, ℕ, Bool, true, false, Option, None, Some, List, [], ◌∷◌, ◌++◌, ◌≢◌, arith, refl, sym, ap, ◌∙◌}
+use Rattle.std.proofs.Common.{◌≡◌, ℕ, Bool, true, false, List, [], ◌∷◌, ◌++◌, ◌≢◌, arith, refl, sym, ap, ◌∙◌}
 use Rattle.std.proofs.lemmas.Bool.Decides.{nat_tests}
 use Rattle.std.specs.declared.cmp.Ordering.{Ordering}
 use Rattle.std.specs.declared.cmp.Ordering.TheVariants.{Less, Equal, Greater}
 use Rattle.std.specs.Ordering.{nat_cmp, bool_cmp, ordering_then}
-use Rattle.std.specs.Option.{option_cmp}
 use Rattle.std.specs.Cmp.Lexicographic.{slice_cmp}
-use Rattle.fs_names.specs.declared.oid.Oid.{Oid}
-use Rattle.fs_names.specs.declared.coll.Coll.{Coll}
-use Rattle.fs_names.specs.declared.coll.Coll.TheVariants.{Meta, Pg}
-use Rattle.fs_names.specs.Text.{digit_at, hash_digits, spelled, field_text}
-use Rattle.fs_names.specs.Order.{oid_field_cmp, coll_field_cmp, snap_key, pool_key, temp_key, parts_cmp}
+use Rattle.fs_names.specs.declared.coll.Coll.TheVariants.{Pg}
+use Rattle.fs_names.specs.Text.{digit_at, hash_digits}
+use Rattle.fs_names.specs.Order.{coll_field_cmp, temp_key}
 
 then_Equal : (r : Ordering) → ordering_then r Equal ≡ r
 then_Equal Less = refl
 then_Equal Equal = refl
 then_Equal Greater = refl
 
-then_assoc : (a b c : Ordering) → ordering_then a (ordering_then b c) ≡ ordering_then (ordering_then a b) c
+pub then_assoc : (a b c : Ordering) → ordering_then a (ordering_then b c) ≡ ordering_then (ordering_then a b) c
 then_assoc Less b c = refl
 then_assoc Equal b c = refl
 then_assoc Greater b c = refl
-
-pool_cmp : (p q : Option ℕ) → slice_cmp nat_cmp (pool_key p) (pool_key q) ≡ option_cmp nat_cmp p q
-pool_cmp None None = refl
-pool_cmp None (Some q) = refl
-pool_cmp (Some p) None = refl
-pool_cmp (Some p) (Some q) = then_Equal (nat_cmp p q)
-
-pub oid_cmp_parts : (a b : Oid)
-    → oid_field_cmp a b
-    ≡ parts_cmp (slice_cmp nat_cmp a.name b.name) (slice_cmp nat_cmp a.key b.key) (slice_cmp nat_cmp a.nspace b.nspace)
-    (slice_cmp nat_cmp (snap_key a.snap) (snap_key b.snap)) (nat_cmp a.hash b.hash) (option_cmp nat_cmp a.pool b.pool)
-unfolding oid_field_cmp
-oid_cmp_parts a b = simp (then_Equal, pool_cmp, then_assoc)
 
 temp_cmp : (s t : Bool) → nat_cmp (temp_key s) (temp_key t) ≡ bool_cmp s t
 temp_cmp true true = refl
@@ -60,11 +44,11 @@ abbrev pub Lacks : ℕ → List ℕ → Type 0
 Lacks z [] = Unit {0}
 Lacks z (x ∷ xs) = (x ≢ z) × Lacks z xs
 
-apart : (x y : ℕ) (r s : Ordering) → x ≢ y → ordering_then (nat_cmp x y) r ≡ ordering_then (nat_cmp x y) s
-apart x y r s other = grind (arith, nat_tests)
+pub differs_first : (x y : ℕ) (r s : Ordering) → x ≢ y → ordering_then (nat_cmp x y) r ≡ ordering_then (nat_cmp x y) s
+differs_first x y r s other = grind (arith, nat_tests)
 
 cut_left : (x y : ℕ) (r s t : Ordering) → x ≢ y → ordering_then (nat_cmp x y) r ≡ ordering_then (ordering_then (nat_cmp x y) s) t
-cut_left x y r s t other = apart x y r (ordering_then s t) other ∙ then_assoc (nat_cmp x y) s t
+cut_left x y r s t other = differs_first x y r (ordering_then s t) other ∙ then_assoc (nat_cmp x y) s t
 
 pub cmp_pieces : (z : ℕ) (xs ys r s : List ℕ) → Lacks z xs → Lacks z ys
     → slice_cmp nat_cmp (xs ++ z ∷ r) (ys ++ z ∷ s) ≡ ordering_then (slice_cmp nat_cmp (xs ++ z ∷ []) (ys ++ z ∷ [])) (slice_cmp nat_cmp r s)

@@ -1,48 +1,18 @@
 -- The texts of snaps, pools and hashes, as they are read.
-use Rattle.std.proofs.Common.{◌≡◌, ◌≢◌, ℕ, ◌^◌, ◌<◌, ◌≤◌, ◌==◌, ◌&&◌, Bool, true, false, not, cond, codes, List, [], ◌∷◌, ◌++◌, length, get_or, Option, Some, None, IfSome, refl, sym, ap, subst, ◌∙◌, arith}
-use Rattle.std.proofs.lemmas.Bool.{both_ways, cond-true, cond-false, false_from_ne_true}
-use Rattle.std.proofs.lemmas.Bool.Decides.{nat_tests}
-use Rattle.std.proofs.lemmas.List.Elements.{All-get_or, All-weaker}
-use Rattle.std.proofs.lemmas.List.Sums.{AllPass-from_list_all}
+use Rattle.std.proofs.Common.{◌≡◌, ℕ, ◌^◌, ◌<◌, Bool, true, false, cond, codes, List, ◌∷◌, Option, Some, None, IfSome, refl, sym, ap, subst, ◌∙◌, arith}
+use Rattle.std.proofs.lemmas.Bool.{both_ways, cond-false, false_from_ne_true}
+use Rattle.std.proofs.lemmas.List.Elements.{All-get_or}
 use Rattle.std.proofs.lemmas.Slice.Eq.{bytes_eq-Decides}
-use Rattle.std.specs.Char.{is_ascii_graphic}
-use Rattle.std.specs.Fmt.{digits, digit_glyph}
-use Rattle.std.specs.List.{All, AllPass}
+use Rattle.std.specs.Fmt.{digits}
+use Rattle.std.specs.List.{AllPass}
 use Rattle.std.specs.Option.{option_map}
 use Rattle.std.specs.Str.{bytes_eq}
 use Rattle.fs_names.specs.declared.oid.Snap.{Snap}
 use Rattle.fs_names.specs.declared.oid.Snap.TheVariants.{Head, Dir, Id}
 use Rattle.fs_names.specs.Numbers.{number_of, is_lower_digit}
 use Rattle.fs_names.specs.Reading.{SnapFits, snap_of, pool_of}
-use Rattle.fs_names.specs.Text.{snap_text, pool_text, hash_text}
+use Rattle.fs_names.specs.Text.{snap_text, pool_text}
 use Rattle.fs_names.proofs.Digits.{digits-lower, number_gives, number_reads}
-use Rattle.fs_names.proofs.Hashes.{hash_text-All}
-
--- a byte that stands in a text between the bytes `_`, and prints
-abbrev pub is_inner : ℕ → Bool
-is_inner b = is_ascii_graphic b && not (b == 95)
-
-lower_inner : (base b : ℕ) → base ≤ 16 → is_lower_digit base b ≡ true → is_inner b ≡ true
-lower_inner base b high h = grind (arith, nat_tests)
-
-upper_inner : (d : ℕ) → d < 16 → is_inner (digit_glyph true d) ≡ true
-upper_inner d h = grind (arith, nat_tests)
-
-pub digits-inner : (base n : ℕ) → 2 ≤ base → base ≤ 16 → AllPass is_inner (digits base false n)
-digits-inner base n low high =
-    All-weaker (λ b. is_lower_digit base b ≡ true) (λ b. is_inner b ≡ true) (λ b. lower_inner base b high) _ (digits-lower base n low high)
-
-pub hash_text-inner : (h : ℕ) → AllPass is_inner (hash_text h)
-hash_text-inner h = hash_text-All (λ b. is_inner b ≡ true) h upper_inner
-
-pub snap_text-inner : (s : Snap) → AllPass is_inner (snap_text s)
-snap_text-inner Head = AllPass-from_list_all is_inner (codes "head") refl
-snap_text-inner Dir = AllPass-from_list_all is_inner (codes "snapdir") refl
-snap_text-inner (Id n) = digits-inner 16 n (omega arith) (omega arith)
-
-pub pool_text-inner : (p : Option ℕ) → AllPass is_inner (pool_text p)
-pool_text-inner None = AllPass-from_list_all is_inner (codes "none") refl
-pool_text-inner (Some n) = digits-inner 16 n (omega arith) (omega arith)
 
 -- no digits are a word that begins with another letter
 not_word : (n b : ℕ) (bs : List ℕ) → is_lower_digit 16 b ≡ false → bytes_eq (digits 16 false n) (b ∷ bs) ≡ false

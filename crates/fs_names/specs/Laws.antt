@@ -1,16 +1,14 @@
 -- What texts and values tell of each other.
 use Rattle.std.specs.Prelude.{◌≡◌, ℕ, List, Some, Ok}
 use Rattle.std.specs.Char.{is_ascii_graphic}
+use Rattle.std.specs.Cmp.Lexicographic.{slice_cmp}
 use Rattle.std.specs.List.{AllPass}
-use Rattle.fs_names.specs.Names.{IsName}
+use Rattle.std.specs.Ordering.{nat_cmp, ordering_then}
 use Rattle.fs_names.specs.Reading.{oid_of, OidFits, coll_of, CollFits}
-use Rattle.fs_names.specs.Text.{name_text, field_text, oid_text, coll_text}
+use Rattle.fs_names.specs.Order.{oid_cmp}
+use Rattle.fs_names.specs.Text.{oid_text, coll_text, hash_digits}
 use Rattle.fs_names.specs.declared.oid.Oid.{Oid}
 use Rattle.fs_names.specs.declared.coll.Coll.{Coll}
-
--- a name is spelled by itself
-abbrev pub NamesAreTheirTexts : Type 0
-NamesAreTheirTexts = (bytes : List ℕ) → IsName bytes → (name_text bytes ≡ bytes) × (field_text bytes ≡ bytes)
 
 -- The text of an object is read as the object, and what is read as an object is the object's text. So no object has two texts,
 -- and no text names two objects.
@@ -33,3 +31,9 @@ CollsReadAreSpelled = (text : List ℕ) (c : Coll) → coll_of text ≡ Some c �
 
 abbrev pub CollTextsPrint : Type 0
 CollTextsPrint = (c : Coll) → CollFits c → AllPass is_ascii_graphic (coll_text c)
+
+-- objects are ordered by the digits of their hashes, the least significant first, and then by their texts: nothing else decides
+abbrev pub OidOrderIsByTexts : Type 0
+OidOrderIsByTexts =
+    (a b : Oid) → OidFits a → OidFits b
+    → oid_cmp a b ≡ ordering_then (slice_cmp nat_cmp (hash_digits a.hash) (hash_digits b.hash)) (slice_cmp nat_cmp (oid_text a) (oid_text b))

@@ -1,12 +1,14 @@
 -- The orders of object names and of collections, by which finite maps are kept.
-use Rattle.std.specs.Prelude.{◌≡◌, ℕ, Bool, true, false, cond, List, [], ◌∷◌, drop, Option, None, Some, refl}
+use Rattle.std.specs.Prelude.{◌≡◌, ℕ, Bool, true, false, cond, nat_eq, codes, List, [], ◌∷◌, ◌++◌, drop, slice_get, Option, None, Some, refl}
+use Rattle.std.specs.List.{starts_with}
+use Rattle.std.specs.Option.{option_map_or}
 use Rattle.std.specs.declared.cmp.Ordering.{Ordering}
 use Rattle.std.specs.declared.cmp.Ordering.TheVariants.{Less, Equal, Greater}
 use Rattle.std.specs.Ordering.{nat_cmp, on, ordering_then, is_eq, eq_by_cmp}
-use Rattle.std.specs.Cmp.{IsTotalOrder, nat_cmp_total, on_total, tied_itself}
+use Rattle.std.specs.Cmp.{IsTotalOrder, on_total, tied_itself}
 use Rattle.std.specs.Cmp.Derive.{one_truth}
 use Rattle.std.proofs.Common.{ap, sym, ◌∙◌}
-use Rattle.fs_names.specs.Text.{hash_digits, oid_text, coll_text}
+use Rattle.fs_names.specs.Text.{hash_digits, spelled, field_text, snap_text, pool_text, oid_text, coll_text}
 use Rattle.std.specs.Cmp.Lexicographic.{slice_cmp, lists_total, nat_list_cmp_total}
 use Rattle.std.specs.FinMap.{IsAntisymmetric, nat_cmp-IsAntisymmetric, slice_cmp-IsAntisymmetric}
 use Rattle.fs_names.specs.declared.oid.Snap.{Snap}
@@ -35,10 +37,7 @@ abbrev pub coll_key : Coll → List ℕ
 coll_key Meta = []
 coll_key (Pg pool seed temp) = pool ∷ seed ∷ temp_key temp ∷ []
 
--- the orders by fields, by which `Ord` goes
-unfoldable pub oid_field_cmp : Oid → Oid → Ordering
-oid_field_cmp = on oid_key (slice_cmp (slice_cmp nat_cmp))
-
+-- the order by fields, by which `Ord` of collections goes
 unfoldable pub coll_field_cmp : Coll → Coll → Ordering
 coll_field_cmp = on coll_key (slice_cmp nat_cmp)
 
@@ -50,10 +49,6 @@ oid_cmp = on (λ o. hash_digits o.hash ∷ oid_text o ∷ oid_key o) (slice_cmp 
 -- the order of the texts
 unfoldable pub coll_cmp : Coll → Coll → Ordering
 coll_cmp = on (λ c. coll_text c ∷ coll_key c ∷ []) (slice_cmp (slice_cmp nat_cmp))
-
-pub oid_field_cmp_total : IsTotalOrder oid_field_cmp
-unfolding oid_field_cmp
-oid_field_cmp_total = on_total oid_key (lists_total nat_list_cmp_total)
 
 pub coll_field_cmp_total : IsTotalOrder coll_field_cmp
 unfolding coll_field_cmp
@@ -121,10 +116,6 @@ tie Greater e = cc
 lists_same : IsAntisymmetric (slice_cmp (slice_cmp nat_cmp))
 lists_same = slice_cmp-IsAntisymmetric (slice_cmp-IsAntisymmetric nat_cmp-IsAntisymmetric)
 
-pub oid_field_cmp-IsAntisymmetric : IsAntisymmetric oid_field_cmp
-unfolding oid_field_cmp
-oid_field_cmp-IsAntisymmetric a b e = oid_key-same a b (lists_same (oid_key a) (oid_key b) e)
-
 pub coll_field_cmp-IsAntisymmetric : IsAntisymmetric coll_field_cmp
 unfolding coll_field_cmp
 coll_field_cmp-IsAntisymmetric a b e = coll_key-same a b (slice_cmp-IsAntisymmetric nat_cmp-IsAntisymmetric (coll_key a) (coll_key b) e)
@@ -151,6 +142,23 @@ same_ties {R = R} {S = S} r s same_r same_s x y =
     (λ t. ap (λ z. eq_by_cmp S x z) (sym (same_r x y (tie _ t))) ∙ ap is_eq (tied_itself s x))
     (λ t. ap (λ z. eq_by_cmp R x z) (sym (same_s x y (tie _ t))) ∙ ap is_eq (tied_itself r x))
 
--- the parts of a comparison of object names
-abbrev pub parts_cmp : Ordering → Ordering → Ordering → Ordering → Ordering → Ordering → Ordering
-parts_cmp a b c d e f = ordering_then (ordering_then (ordering_then (ordering_then (ordering_then a b) c) d) e) f
+-- The order of texts, piece by piece.
+
+-- two pieces, each ended by `_`
+abbrev pub ended_cmp : List ℕ → List ℕ → Ordering
+ended_cmp s t = slice_cmp nat_cmp (s ++ 95 ∷ []) (t ++ 95 ∷ [])
+
+-- what follows the key, but for the hash
+abbrev pub ends_cmp : Oid → Oid → Ordering
+ends_cmp a b =
+    ordering_then (ended_cmp (snap_text a.snap) (snap_text b.snap))
+    (ordering_then (ended_cmp (field_text a.nspace) (field_text b.nspace)) (slice_cmp nat_cmp (pool_text a.pool) (pool_text b.pool)))
+
+-- the spelling of the byte at a place, or `_` at the end
+abbrev pub unit_at : List ℕ → ℕ → List ℕ
+unit_at bytes place = option_map_or spelled (slice_get bytes place) (95 ∷ [])
+
+-- the first unit of a name's spelling, or `_`
+abbrev pub name_unit : List ℕ → List ℕ
+name_unit name =
+    cond (starts_with nat_eq name (codes "DIR_")) (92 ∷ 100 ∷ []) (cond (starts_with nat_eq name (codes ".")) (92 ∷ 46 ∷ []) (unit_at name 0))

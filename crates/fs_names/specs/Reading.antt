@@ -1,14 +1,15 @@
 -- Which object and which collection a text names.
-use Rattle.std.specs.Prelude.{◌≡◌, ℕ, ◌+◌, ◌^◌, ◌<◌, Bool, true, false, ◌&&◌, if◌then◌else◌, ◌==◌, nat_lt, ⊤, List, [], ◌∷◌, length, codes, Option, Some, None, IfSome, Result, Ok, Err}
+use Rattle.std.specs.Prelude.{ℕ, ◌+◌, ◌^◌, ◌<◌, Bool, true, false, ◌&&◌, if◌then◌else◌, ◌==◌, nat_lt, ⊤, List, [], ◌∷◌, length, codes, Option, Some, None, IfSome, Result, Ok, Err}
 use Rattle.std.specs.List.{slice_split, before_first, after_first}
-use Rattle.std.specs.Option.{option_map, option_or, option_and_then}
+use Rattle.std.specs.Option.{option_map, option_and_then, ok_or}
 use Rattle.std.specs.Str.{bytes_eq}
 use Rattle.std.specs.Str.Parse.{digits_value}
-use Rattle.fs_names.specs.Names.{IsName, escape_fault, length_fault}
+use Rattle.fs_names.specs.Names.{IsName}
 use Rattle.fs_names.specs.Numbers.{number_of}
 use Rattle.fs_names.specs.Text.{hash_text}
+use Rattle.fs_names.specs.Units.{field_of, name_of}
 use Rattle.fs_names.specs.declared.fault.NameFault.{NameFault}
-use Rattle.fs_names.specs.declared.fault.NameFault.TheVariants.{BadField}
+use Rattle.fs_names.specs.declared.fault.NameFault.TheVariants.{BadField, TooLong}
 use Rattle.fs_names.specs.declared.oid.Snap.{Snap}
 use Rattle.fs_names.specs.declared.oid.Snap.TheVariants.{Head, Dir, Id}
 use Rattle.fs_names.specs.declared.oid.Oid.{Oid}
@@ -76,26 +77,29 @@ hash_of text =
 abbrev pub pool_of : List ℕ → Option (Option ℕ)
 pool_of text = if bytes_eq text (codes "none") then Some None else option_map Some (number_of 16 text)
 
--- why these are no name, key and namespace: the first byte of the text that they can't have, else the first that is too long
-abbrev pub names_fault : List ℕ → List ℕ → List ℕ → List ℕ → List ℕ → Option NameFault
-names_fault name key snap hash nspace =
+-- one after the other, up to the first fault
+infixl 10 ◌>>=◌
+abbrev pub ◌>>=◌ : {A B : Type 0} → Result A NameFault → (A → Result B NameFault) → Result B NameFault
+(Ok x) >>= f = f x
+(Err e) >>= f = Err e
+
+-- a field with at most 1,024 bytes
+abbrev pub within_limit : ℕ → List ℕ → Result (List ℕ) NameFault
+within_limit field bytes = if nat_lt 1024 (length bytes) then Err (TooLong field) else Ok bytes
+
+-- the name, key and namespace of these fields: first each unit is one, and then none is too long
+abbrev pub names_of : List ℕ → List ℕ → List ℕ → List ℕ → List ℕ → Result (List ℕ × List ℕ × List ℕ) NameFault
+names_of name key snap hash nspace =
     let key_at = length name + 1 in
     let nspace_at = key_at + length key + 1 + length snap + 1 + length hash + 1 in
-    option_or (escape_fault 0 name) (option_or (escape_fault key_at key) (option_or (escape_fault nspace_at nspace)
-    (option_or (length_fault 0 name) (option_or (length_fault 1 key) (length_fault 4 nspace)))))
+    name_of name >>= λ n. field_of key_at key >>= λ k. field_of nspace_at nspace >>= λ s.
+    within_limit 0 n >>= λ _. within_limit 1 k >>= λ _. within_limit 4 s >>= λ _. Ok (n, k, s)
 
--- the object of a name, key and namespace with these further fields, unless there is a fault; else the first field that is no spelling
-abbrev pub oid_from : Option NameFault → List ℕ → List ℕ → List ℕ → Option Snap → Option ℕ → Option (Option ℕ) → Result Oid NameFault
-oid_from (Some fault) name key nspace snap hash pool = Err fault
-oid_from None name key nspace None hash pool = Err (BadField 2)
-oid_from None name key nspace (Some snap) None pool = Err (BadField 3)
-oid_from None name key nspace (Some snap) (Some hash) None = Err (BadField 5)
-oid_from None name key nspace (Some snap) (Some hash) (Some pool) =
-    Ok (record { name = name; key = key; nspace = nspace; snap = snap; hash = hash; pool = pool })
-
--- the object that six fields name
+-- the object that six fields name, or the first fault
 unfoldable pub oid_of_six : List ℕ → List ℕ → List ℕ → List ℕ → List ℕ → List ℕ → Result Oid NameFault
-oid_of_six name key snap hash nspace pool = oid_from (names_fault name key snap hash nspace) name key nspace (snap_of snap) (hash_of hash) (pool_of pool)
+oid_of_six name key snap hash nspace pool =
+    names_of name key snap hash nspace >>= λ names. ok_or (snap_of snap) (BadField 2) >>= λ s. ok_or (hash_of hash) (BadField 3) >>= λ h.
+    ok_or (pool_of pool) (BadField 5) >>= λ p. Ok (record { name = names.0; key = names.1; nspace = names.2; snap = s; hash = h; pool = p })
 
 abbrev pub oid_of_fields : List (List ℕ) → Result Oid NameFault
 oid_of_fields (name ∷ key ∷ snap ∷ hash ∷ nspace ∷ pool ∷ []) = oid_of_six name key snap hash nspace pool

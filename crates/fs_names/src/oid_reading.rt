@@ -1,12 +1,13 @@
-ghost use Rattle.std.specs.Prelude.{◌≡◌, ◌≢◌, ◌+◌, ◌≤◌, ◌<◌, ◌^◌, length, Err, IfOk, IfErr, IfSome, IfNone, OnOk, IsOk};
-ghost use Rattle.fs_names.specs.Names.{IsName};
-ghost use Rattle.fs_names.specs.Reading.{oid_of, oid_of_six, names_fault, snap_of, hash_of, pool_of};
+ghost use Rattle.std.specs.Prelude.{◌≡◌, ◌≢◌, ◌+◌, ◌≤◌, ◌<◌, ◌^◌, ℕ, List, if◌then◌else◌, nat_lt, length, Ok, Err, IfOk, IfErr, IfSome, IfNone, OnOk, IsOk};
+ghost use Rattle.std.specs.Result.{IsOkAnd};
+ghost use Rattle.fs_names.specs.Reading.{oid_of, oid_of_six, names_of, snap_of, hash_of, pool_of};
+ghost use Rattle.fs_names.specs.Units.{name_of, field_of};
 
 use crate::hash::hash_text;
-use crate::name::{escape_fault, length_fault};
 use crate::split::split_once;
+use crate::units::{count_name, count_units, push_name, push_units};
 use crate::{Name, NameFault, Oid, Snap, hexadecimal};
-use std::alloc::Global;
+use std::alloc::{AllocError, Global};
 
 /// The six fields of an object's text.
 #[derive(Clone, Copy)]
@@ -22,16 +23,25 @@ struct Fields<'a> {
 /// What an object's text says beside the names.
 #[derive(Clone, Copy)]
 struct Values {
+    counts: Counts,
     snap: Snap,
     hash: u32,
     pool: Option<u64>,
 }
 
-/// The object that a text names. Names with escaped bytes aren't supported yet.
+/// How many bytes the name, the key and the namespace have.
+#[derive(Clone, Copy)]
+struct Counts {
+    name: usize,
+    key: usize,
+    nspace: usize,
+}
+
+/// The object that a text names.
 ///
-/// Refuses, in this order: a text without exactly six fields (`BadField` 6); the first byte that no name, key or
-/// namespace has (`BadEscape`); the lowest of them that is too long (`TooLong` 0, 1 or 4); the lowest other field that is
-/// no spelling (`BadField` 2, 3 or 5); for want of memory.
+/// Refuses, in this order: a text without exactly six fields (`BadField` 6); the first place in the name, the key or the
+/// namespace where something begins that spells no byte there (`BadEscape`); the lowest of them that is too long
+/// (`TooLong` 0, 1 or 4); the lowest other field that is no spelling (`BadField` 2, 3 or 5); for want of memory.
 pub fn decode_oid(alloc: Global, text: &[u8]) -> Result<Oid, NameFault>
     ensures ok { IfOk result (λ oid. oid_of text.now ≡ Ok oid) }
     ensures fault { IfErr result (λ fault. fault ≢ NameFault.Memory → oid_of text.now ≡ Err fault) }
@@ -84,32 +94,54 @@ fn read_fields(alloc: Global, fields: &Fields<'_>) -> Result<Oid, NameFault>
 {
     let values = read_values(fields)?;
     Ok(Oid {
-        name: Name::plain(alloc, fields.name)?,
-        key: Name::plain(alloc, fields.key)?,
-        nspace: Name::plain(alloc, fields.nspace)?,
+        name: read_name(alloc, fields.name, values.counts.name)?,
+        key: read_field(alloc, fields.key, values.counts.key)?,
+        nspace: read_field(alloc, fields.nspace, values.counts.nspace)?,
         snap: values.snap,
         hash: values.hash,
         pool: values.pool,
     })
 }
 
-/// What these fields say beside the name, key and namespace.
+/// The name of this many bytes that a text spells.
+fn read_name(alloc: Global, text: &[u8], count: usize) -> Result<Name, AllocError>
+    requires { IsOkAnd (name_of text.now) (λ name. length name ≤ 1024) }
+    ensures { IfOk result (λ name. name_of text.now ≡ Ok name) }
+{
+    let mut bytes = Vec::with_capacity(alloc, count)?;
+    push_name(&mut bytes, text)?;
+    Ok(Name::of(bytes))
+}
+
+/// The key or namespace of this many bytes that a text spells.
+fn read_field(alloc: Global, text: &[u8], count: usize) -> Result<Name, AllocError>
+    requires { IsOkAnd (field_of 0 text.now) (λ field. length field ≤ 1024) }
+    ensures { IfOk result (λ field. field_of 0 text.now ≡ Ok field) }
+{
+    let mut bytes = Vec::with_capacity(alloc, count)?;
+    push_units(&mut bytes, text)?;
+    Ok(Name::of(bytes))
+}
+
+/// What these fields say beside the bytes of the name, key and namespace.
 fn read_values(fields: &Fields<'_>) -> Result<Values, NameFault>
     requires { let f = fields.now in
         length f.name.now + length f.key.now + length f.snap.now + length f.hash.now + length f.nspace.now + 5 < 2 ^ 64 }
+    ensures name { OnOk result (IsOkAnd (name_of fields.now.name.now) (λ name. length name ≤ 1024)) }
+    ensures key { OnOk result (IsOkAnd (field_of 0 fields.now.key.now) (λ key. length key ≤ 1024)) }
+    ensures nspace { OnOk result (IsOkAnd (field_of 0 fields.now.nspace.now) (λ nspace. length nspace ≤ 1024)) }
     ensures ok { let f = fields.now in
-        IfOk result (λ v. oid_of_six f.name.now f.key.now f.snap.now f.hash.now f.nspace.now f.pool.now
-        ≡ Ok (record { name = f.name.now; key = f.key.now; nspace = f.nspace.now; snap = v.snap; hash = v.hash; pool = v.pool })) }
-    ensures name { OnOk result (IsName fields.now.name.now) }
-    ensures key { OnOk result (IsName fields.now.key.now) }
-    ensures nspace { OnOk result (IsName fields.now.nspace.now) }
+        IfOk result (λ v. (n k s : List ℕ) → name_of f.name.now ≡ Ok n → field_of 0 f.key.now ≡ Ok k → field_of 0 f.nspace.now ≡ Ok s
+        → oid_of_six f.name.now f.key.now f.snap.now f.hash.now f.nspace.now f.pool.now
+        ≡ Ok (record { name = n; key = k; nspace = s; snap = v.snap; hash = v.hash; pool = v.pool })) }
     ensures fault { let f = fields.now in
         IfErr result (λ fault. oid_of_six f.name.now f.key.now f.snap.now f.hash.now f.nspace.now f.pool.now ≡ Err fault) }
     ensures never { result ≢ Err NameFault.Memory }
 {
-    if let Some(fault) = names_fault(fields) {
-        return Err(fault);
-    }
+    let counts = match count_names(fields) {
+        Ok(counts) => counts,
+        Err(fault) => return Err(fault),
+    };
     let Some(snap) = read_snap(fields.snap) else {
         return Err(NameFault::BadField { n: 2 });
     };
@@ -119,27 +151,42 @@ fn read_values(fields: &Fields<'_>) -> Result<Values, NameFault>
     let Some(pool) = read_pool(fields.pool) else {
         return Err(NameFault::BadField { n: 5 });
     };
-    Ok(Values { snap, hash, pool })
+    Ok(Values {
+        counts,
+        snap,
+        hash,
+        pool,
+    })
 }
 
-/// Why these are no name, key and namespace.
-fn names_fault(fields: &Fields<'_>) -> Option<NameFault>
+/// How long the name, key and namespace are, unless one is none.
+fn count_names(fields: &Fields<'_>) -> Result<Counts, NameFault>
     requires { let f = fields.now in
         length f.name.now + length f.key.now + length f.snap.now + length f.hash.now + length f.nspace.now + 5 < 2 ^ 64 }
+    ensures never { result ≢ Err NameFault.Memory }
+    ensures ok { let f = fields.now in OnOk result (IsOk (names_of f.name.now f.key.now f.snap.now f.hash.now f.nspace.now)) }
     ensures fault { let f = fields.now in
-        result ≡ names_fault f.name.now f.key.now f.snap.now f.hash.now f.nspace.now }
-    ensures name { IfNone result (IsName fields.now.name.now) }
-    ensures key { IfNone result (IsName fields.now.key.now) }
-    ensures nspace { IfNone result (IsName fields.now.nspace.now) }
+        IfErr result (λ fault. names_of f.name.now f.key.now f.snap.now f.hash.now f.nspace.now ≡ Err fault) }
 {
     let key_at = fields.name.len() + 1;
     let nspace_at = key_at + fields.key.len() + 1 + fields.snap.len() + 1 + fields.hash.len() + 1;
-    escape_fault(0, fields.name)
-        .or(escape_fault(key_at, fields.key))
-        .or(escape_fault(nspace_at, fields.nspace))
-        .or(length_fault(0, fields.name))
-        .or(length_fault(1, fields.key))
-        .or(length_fault(4, fields.nspace))
+    let name = count_name(fields.name)?;
+    let key = count_units(key_at, fields.key)?;
+    let nspace = count_units(nspace_at, fields.nspace)?;
+    within_limit(0, name)?;
+    within_limit(1, key)?;
+    within_limit(4, nspace)?;
+    Ok(Counts { name, key, nspace })
+}
+
+/// A field has at most 1,024 bytes.
+fn within_limit(field: u8, count: usize) -> Result<(), NameFault>
+    ensures { result ≡ (if nat_lt 1024 count then Err (NameFault.TooLong field) else Ok tt) }
+{
+    if count > 1024 {
+        return Err(NameFault::TooLong { field });
+    }
+    Ok(())
 }
 
 /// The hash that eight upper-case digits spell.

@@ -1,8 +1,10 @@
-ghost use Rattle.std.specs.Prelude.{◌≡◌, ◌∷◌, ◌++◌, IfOk, OnOk, string_bytes};
-ghost use Rattle.fs_names.specs.Text.{oid_text, snap_text, pool_text};
+ghost use Rattle.std.specs.Prelude.{◌≡◌, ◌∷◌, ◌++◌, IfOk, OnOk};
+ghost use Rattle.fs_names.specs.Text.{oid_text};
 
+use crate::Oid;
 use crate::hash::hash_text;
-use crate::{Oid, Snap};
+use crate::short_text::ShortText;
+use crate::spelling::{field_len, name_len, spell_field, spell_name};
 use std::alloc::{AllocError, Global};
 use std::marker::Model;
 
@@ -53,21 +55,30 @@ impl From<OidText> for Vec<u8> {
     }
 }
 
-/// The text of an object's name.
+/// The text of an object's name, in a vector of just its length.
 pub fn encode_oid(alloc: Global, oid: &Oid) -> Result<OidText, AllocError>
     ensures { IfOk result (λ text. text ≡ oid_text oid.now) }
 {
-    let snap = snap_text(alloc, oid.snap)?;
-    let pool = pool_text(alloc, oid.pool)?;
-    let hash = hash_text(oid.hash);
-    let mut bytes = Vec::new(alloc);
-    bytes.extend_from_slice(oid.name.bytes())?;
-    push_field(&mut bytes, oid.key.bytes())?;
-    push_field(&mut bytes, snap.as_bytes())?;
-    push_field(&mut bytes, &hash)?;
-    push_field(&mut bytes, oid.nspace.bytes())?;
-    push_field(&mut bytes, pool.as_bytes())?;
+    let snap = ShortText::of_snap(oid.snap);
+    let pool = ShortText::of_pool(oid.pool);
+    let mut bytes = Vec::with_capacity(alloc, text_len(oid, &snap, &pool))?;
+    spell_name(&mut bytes, oid.name.bytes())?;
+    bytes.push(b'_')?;
+    spell_field(&mut bytes, oid.key.bytes())?;
+    push_field(&mut bytes, snap.slice())?;
+    push_field(&mut bytes, &hash_text(oid.hash))?;
+    bytes.push(b'_')?;
+    spell_field(&mut bytes, oid.nspace.bytes())?;
+    push_field(&mut bytes, pool.slice())?;
     Ok(OidText { bytes })
+}
+
+/// How many bytes a text has.
+fn text_len(oid: &Oid, snap: &ShortText, pool: &ShortText) -> usize {
+    let names = name_len(oid.name.bytes())
+        + field_len(oid.key.bytes())
+        + field_len(oid.nspace.bytes());
+    names + snap.slice().len() + 8 + pool.slice().len() + 5
 }
 
 /// Appends `_` and a field.
@@ -76,23 +87,4 @@ fn push_field(text: &mut Vec<u8>, field: &[u8]) -> Result<(), AllocError>
 {
     text.push(b'_')?;
     text.extend_from_slice(field)
-}
-
-fn snap_text(alloc: Global, snap: Snap) -> Result<String, AllocError>
-    ensures { IfOk result (λ text. string_bytes text ≡ snap_text snap) }
-{
-    match snap {
-        Snap::Head => String::from_str(alloc, "head"),
-        Snap::Dir => String::from_str(alloc, "snapdir"),
-        Snap::Id(id) => format!(in alloc; "{id:x}"),
-    }
-}
-
-fn pool_text(alloc: Global, pool: Option<u64>) -> Result<String, AllocError>
-    ensures { IfOk result (λ text. string_bytes text ≡ pool_text pool) }
-{
-    match pool {
-        None => String::from_str(alloc, "none"),
-        Some(id) => format!(in alloc; "{id:x}"),
-    }
 }

@@ -1,6 +1,6 @@
 use crate::{
-    Coll, CollFault, CollText, Name, NameFault, Oid, OidText, Pos, Snap, decimal, decode_coll,
-    decode_oid, digit, encode_coll, encode_oid, hexadecimal, order_hash,
+    Coll, CollFault, CollText, GroupId, Name, NameFault, Oid, OidText, Pos, Snap, decimal,
+    decode_coll, decode_oid, digit, encode_coll, encode_oid, group, hexadecimal, order_hash,
 };
 use std::alloc::Global;
 use std::cmp::Ordering;
@@ -8,27 +8,15 @@ use std::process::Abort;
 use std::test::Fail;
 
 #[test]
-fn names_are_plain_bytes_up_to_1024(rt: HostRuntime) -> Result<(), Fail> {
-    let longest = vec![in rt.alloc(); b'a'; 1024]?;
+fn names_have_any_bytes_up_to_1024(rt: HostRuntime) -> Result<(), Fail> {
+    let longest = vec![in rt.alloc(); b'_'; 1024]?;
     let name = Name::new(rt.alloc(), &longest)
         .ok()
         .ok_or("a name of 1,024 bytes")?;
     assert_eq!(rt; name.copy()?.bytes(), longest.as_slice());
     let longer = vec![in rt.alloc(); b'a'; 1025]?;
-    let cases: [(&[u8], NameFault); 8] = [
-        (&longer, NameFault::TooLong { field: 0 }),
-        (b".a", NameFault::BadEscape { at: 0 }),
-        (b"a_b", NameFault::BadEscape { at: 1 }),
-        (b"a.b/", NameFault::BadEscape { at: 3 }),
-        (b"\\", NameFault::BadEscape { at: 0 }),
-        (b"a b", NameFault::BadEscape { at: 1 }),
-        (b"ab\x7f", NameFault::BadEscape { at: 2 }),
-        (b"DIR_1", NameFault::BadEscape { at: 3 }),
-    ];
-    for (bytes, fault) in cases {
-        let refused = Name::new(rt.alloc(), bytes).err();
-        assert_eq!(rt; refused, Some(fault));
-    }
+    let refused = Name::new(rt.alloc(), &longer).err();
+    assert_eq!(rt; refused, Some(NameFault::TooLong { field: 0 }));
     Ok(())
 }
 
@@ -90,19 +78,75 @@ fn objects_have_these_texts(rt: HostRuntime) -> Result<(), Fail> {
     are_one(&rt, alloc, &zeros, "c__0_00000000__0")
 }
 
+// The name, the key and the namespace have these bytes and these spellings.
+fn are_spelled(rt: &impl Abort, alloc: Global, bytes: [&[u8]; 3], text: &str) -> Result<(), Fail> {
+    let oid = object(
+        alloc,
+        bytes[0],
+        bytes[1],
+        bytes[2],
+        Snap::Head,
+        0xA1B2,
+        Some(3),
+    )?;
+    are_one(rt, alloc, &oid, text)
+}
+
 #[test]
-fn texts_of_objects_are_refused_for_their_first_fault(rt: HostRuntime) -> Result<(), Fail> {
-    let cases: [(&str, NameFault); 21] = [
+fn other_bytes_are_escaped(rt: HostRuntime) -> Result<(), Fail> {
+    let cases: [([&[u8]; 3], &str); 10] = [
+        (
+            [b"DIR_a/b_c\\", b"k.1", b"n s"],
+            "\\da\\sb\\uc\\\\_k.1_head_0000A1B2_n\\x20s_3",
+        ),
+        (
+            [b"a/b", b"_", b"\x00\x01"],
+            "a\\sb_\\u_head_0000A1B2_\\n\\x01_3",
+        ),
+        (
+            [b"\x7f\xff", b"\x80", b" ~!"],
+            "\\x7f\\xff_\\x80_head_0000A1B2_\\x20~!_3",
+        ),
+        ([b".", b".", b".."], "\\._._head_0000A1B2_.._3"),
+        (
+            [b"..a", b"DIR_", b"DIR_a"],
+            "\\..a_DIR\\u_head_0000A1B2_DIR\\ua_3",
+        ),
+        ([b"DIR_", b"", b""], "\\d__head_0000A1B2__3"),
+        ([b"DIR_.DIR_", b"", b""], "\\d.DIR\\u__head_0000A1B2__3"),
+        ([b"DIR", b"DI", b"DIRx_"], "DIR_DI_head_0000A1B2_DIRx\\u_3"),
+        (
+            [b"\\d", b"\\.", b"\\x5f"],
+            "\\\\d_\\\\._head_0000A1B2_\\\\x5f_3",
+        ),
+        (
+            [b"rbd_data.1f", b"\t", b"\n"],
+            "rbd\\udata.1f_\\x09_head_0000A1B2_\\x0a_3",
+        ),
+    ];
+    for (bytes, text) in cases {
+        are_spelled(&rt, rt.alloc(), bytes, text)?;
+    }
+    Ok(())
+}
+
+// Each text is refused for this fault.
+fn are_refused(rt: &impl Abort, alloc: Global, cases: &[(&str, NameFault)]) -> Result<(), Fail> {
+    for (text, fault) in cases {
+        let refused = decode_oid(alloc, text.as_bytes()).err();
+        assert_eq!(rt; refused, Some(*fault), "{text}");
+    }
+    Ok(())
+}
+
+#[test]
+fn texts_of_other_fields_are_refused(rt: HostRuntime) -> Result<(), Fail> {
+    let cases = [
         ("", NameFault::BadField { n: 6 }),
         ("a__head", NameFault::BadField { n: 6 }),
         ("a__head_00000001__1_", NameFault::BadField { n: 6 }),
         ("a___head_00000001__1", NameFault::BadField { n: 6 }),
-        ("\\x5f__head_00000001__1", NameFault::BadEscape { at: 0 }),
-        (".a__head_00000001__1", NameFault::BadEscape { at: 0 }),
-        ("a_k/_head_00000001__1", NameFault::BadEscape { at: 3 }),
-        ("a_.k_head_00000001__1", NameFault::BadEscape { at: 2 }),
-        ("a_k_head_00000001_n s_1", NameFault::BadEscape { at: 19 }),
-        ("a b_k\\_head_00000001__1", NameFault::BadEscape { at: 1 }),
+        ("\\x5f_head", NameFault::BadField { n: 6 }),
         ("a__Head_0000001__1", NameFault::BadField { n: 2 }),
         ("a___00000001__1", NameFault::BadField { n: 2 }),
         ("a__01_00000001__1", NameFault::BadField { n: 2 }),
@@ -117,12 +161,40 @@ fn texts_of_objects_are_refused_for_their_first_fault(rt: HostRuntime) -> Result
         ("a__head_+0000001__", NameFault::BadField { n: 3 }),
         ("a__head_0000000A__", NameFault::BadField { n: 5 }),
         ("a__head_0000000A__+1", NameFault::BadField { n: 5 }),
+        ("a__head_0000000A__None", NameFault::BadField { n: 5 }),
     ];
-    for (text, fault) in cases {
-        let refused = decode_oid(rt.alloc(), text.as_bytes()).err();
-        assert_eq!(rt; refused, Some(fault), "{text}");
-    }
-    Ok(())
+    are_refused(&rt, rt.alloc(), &cases)
+}
+
+#[test]
+fn other_spellings_are_refused_at_their_first_place(rt: HostRuntime) -> Result<(), Fail> {
+    let cases = [
+        ("\\x5f__head_00000001__1", NameFault::BadEscape { at: 0 }),
+        ("DIR\\ux__head_00000001__1", NameFault::BadEscape { at: 0 }),
+        (".a__head_00000001__1", NameFault::BadEscape { at: 0 }),
+        ("\\d.\\.__head_00000001__1", NameFault::BadEscape { at: 3 }),
+        ("a\\d__head_00000001__1", NameFault::BadEscape { at: 1 }),
+        ("\\.\\d__head_00000001__1", NameFault::BadEscape { at: 2 }),
+        ("a_\\d_head_00000001__1", NameFault::BadEscape { at: 2 }),
+        ("a_\\._head_00000001__1", NameFault::BadEscape { at: 2 }),
+        ("a_k/_head_00000001__1", NameFault::BadEscape { at: 3 }),
+        ("a_k_head_00000001_n s_1", NameFault::BadEscape { at: 19 }),
+        (
+            "\\\\_\\u_head_00000001_\\x20\\x21_1",
+            NameFault::BadEscape { at: 24 },
+        ),
+        ("a b_k\\_head_00000001__1", NameFault::BadEscape { at: 1 }),
+        ("a_k\\_head_00000001__1", NameFault::BadEscape { at: 3 }),
+        ("\\x2__head_00000001__1", NameFault::BadEscape { at: 0 }),
+        ("\\x0A__head_00000001__1", NameFault::BadEscape { at: 0 }),
+        ("\\x00__head_00000001__1", NameFault::BadEscape { at: 0 }),
+        ("\\x2f__head_00000001__1", NameFault::BadEscape { at: 0 }),
+        ("\\x5c__head_00000001__1", NameFault::BadEscape { at: 0 }),
+        ("\\x61__head_00000001__1", NameFault::BadEscape { at: 0 }),
+        ("\\a__Head_0000001__1", NameFault::BadEscape { at: 0 }),
+        ("a\u{7f}__head_00000001__1", NameFault::BadEscape { at: 1 }),
+    ];
+    are_refused(&rt, rt.alloc(), &cases)
 }
 
 /// A text with a field of this length: the name, the key or the namespace.
@@ -153,6 +225,20 @@ fn fields_have_at_most_1024_bytes(rt: HostRuntime) -> Result<(), Fail> {
         let refused = decode_oid(rt.alloc(), &longer).err();
         assert_eq!(rt; refused, Some(NameFault::TooLong { field }));
     }
+    Ok(())
+}
+
+#[test]
+fn a_field_is_as_long_as_its_bytes_are_many(rt: HostRuntime) -> Result<(), Fail> {
+    let longest = vec![in rt.alloc(); b'_'; 1024]?;
+    let oid = object(rt.alloc(), &longest, b"", b"", Snap::Head, 1, Some(1))?;
+    let text = encode_oid(rt.alloc(), &oid)?;
+    assert_eq!(rt; text.slice().len(), 2066usize);
+    assert!(rt; decode_oid(rt.alloc(), text.slice())? == oid);
+    let mut longer = long_text(rt.alloc(), 0, 1025)?;
+    longer.push(b' ')?;
+    let refused = decode_oid(rt.alloc(), &longer).err();
+    assert_eq!(rt; refused, Some(NameFault::TooLong { field: 0 }));
     Ok(())
 }
 
@@ -260,6 +346,19 @@ fn hashes_go_by_their_last_digit_first(rt: HostRuntime) {
     assert!(rt; order_hash(0x21, 0x11) == Ordering::Greater);
     assert!(rt; order_hash(0x8000_0000, 0x7FFF_FFFF) == Ordering::Less);
     assert!(rt; order_hash(7, 7) == Ordering::Equal);
+}
+
+#[test]
+fn a_collection_and_its_temporary_one_share_a_group(rt: HostRuntime) {
+    for temp in [false, true] {
+        let coll = Coll::Pg {
+            pool: 7,
+            seed: 2,
+            temp,
+        };
+        assert!(rt; group(&coll) == GroupId::Pg(7, 2));
+    }
+    assert!(rt; group(&Coll::Meta) == GroupId::Meta);
 }
 
 #[test]

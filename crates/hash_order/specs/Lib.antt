@@ -1,0 +1,2 @@
+pub mod HashOrder
+pub mod Listing
