@@ -6,3 +6,6 @@ pub mod ByteCells
 pub mod Listings
 pub mod Refusals
 pub mod Writes
+mod Undoing
+mod Moves
+pub mod Changes
