@@ -95,20 +95,20 @@ write_row at bytes s x (Attr k) = refl
 write_row at bytes s x OmapHeader = refl
 write_row at bytes s x (OmapKey k) = refl
 
-zero_at : (len i : ℕ) → get_or (replicate len 0) i 0 ≡ 0
+zero_at : (len i : ℕ) → ◌≡◌ {A = ℕ} (get_or (replicate len 0) i 0) 0
 zero_at zero i = refl
 zero_at (suc len) zero = refl
 zero_at (suc len) (suc i) = zero_at len i
 
-zeros : (len : ℕ) → length (replicate len (let z : ℕ = 0 in z)) ≡ len
+zeros : (len : ℕ) → length (replicate {A = ℕ} len 0) ≡ len
 zeros zero = refl
 zeros (suc len) = ap suc (zeros len)
 
 pub zero_row : (at len : ℕ) (s : Cell → Value) → Row (λ x. zeroed x at len) (overwritten at len (λ i. 0)) s
 zero_row at len s =
-    let all : (λ (i : ℕ). get_or (replicate len 0) i 0) ≡ (λ i. 0) = fun_ext (λ i. zero_at len i) in
+    let all : ◌≡◌ {A = ℕ → ℕ} (λ i. get_or (replicate len 0) i 0) (λ i. 0) = fun_ext (λ i. zero_at len i) in
     subst (λ n. Row (λ x. zeroed x at len) (overwritten at n (λ i. 0)) s) (zeros len)
-    (subst (λ (b : ℕ → ℕ). Row (λ x. zeroed x at len) (overwritten at (length (replicate len 0)) b) s) all (write_row at (replicate len 0) s))
+    (subst (λ (b : ℕ → ℕ). Row (λ x. zeroed x at len) (overwritten at (length (replicate {A = ℕ} len 0)) b) s) all (write_row at (replicate {A = ℕ} len 0) s))
 
 length-resize : (old : List ℕ) (n : ℕ) → length (resize old n) ≡ n
 length-resize old n = grind (arith, common_steps)

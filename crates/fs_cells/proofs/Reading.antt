@@ -27,7 +27,7 @@ abbrev Plain : (Part → CellAct) → Type 0
 Plain act = (p : Part) (y : Cell) → Source (act p) y → ⊥
 
 unless_chosen : (t : Bool) (a : CellAct) (y : Cell) → (Source a y → ⊥) → Source (cond t a leaves) y → ⊥
-unless_chosen true a y none = none
+unless_chosen true a y none s = none s
 unless_chosen false a y none s = s
 
 no_set : (v : Option (Option (List ℕ))) (y : Cell) → Source (set_to v) y → ⊥

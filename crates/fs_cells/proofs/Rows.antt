@@ -7,7 +7,7 @@ use Rattle.fs_model.specs.declared.op.Op.{Op}
 use Rattle.fs_model.specs.declared.op.Op.TheVariants.{Touch, Write, Zero, Truncate, Remove, SetAttrs, RmAttr, RmAttrs, Clone, CloneRange, MoveRename, MkColl, RmColl, OmapClear, OmapSet, OmapRemove, OmapRange}
 use Rattle.fs_model.specs.Objects.{Object, Objects, look, read_object, with_object, without_object}
 use Rattle.fs_model.specs.Rows.{written, zeroed, truncated, with_attrs, without_attr, without_attrs, without_omap, with_omap, without_keys, without_range, part, row, fold_ops}
-use Rattle.fs_model.proofs.Cells.{same_oid, look-with_object}
+use Rattle.fs_model.proofs.Cells.{same_oid, look-with_object, look-without_object, there-without_object}
 use Rattle.replay_laws.specs.Replay.{leaves, sets, effect, moved, fold}
 use Rattle.fs_cells.specs.declared.cell.Cell.{Cell}
 use Rattle.fs_cells.specs.declared.cell.Part.{Part}
@@ -16,7 +16,7 @@ use Rattle.fs_cells.specs.Values.{Value, flag, raise, value_at, cells_of}
 use Rattle.fs_cells.specs.Parts.{CellAct, touched, overwritten, resized, removed, attrs_set, attr_removed, attrs_removed, omap_cleared, omap_set, omap_removed, omap_range_removed, copied, range_copied}
 use Rattle.fs_cells.specs.Actions.{in_coll, is_of, on_object, act_of}
 use Rattle.fs_cells.specs.Laws.{AreAllowed, RowLaw, FoldLaw}
-use Rattle.fs_cells.proofs.Looks.{is_coll, is_oid, look-without_object, there-without_object, look-remove, look-made}
+use Rattle.fs_cells.proofs.Looks.{is_coll, is_oid, look-remove, look-made}
 use Rattle.fs_cells.proofs.Parts.{Row, made_row, touch_row, write_row, zero_row, truncate_row, set_attrs_row, rm_attr_row, rm_attrs_row, clear_row, omap_set_row, omap_remove_row, omap_range_row, copied_part, range_row}
 
 one_there : (a : Bool) → (a && true) ≡ true → a ≡ true

@@ -48,6 +48,4 @@ pub kind_set_by : (pairs : List Pair) (k : List ℕ) → kind (set_to (option_ma
 kind_set_by [] k = refl
 kind_set_by (p ∷ pairs) k = one_more (value_in pairs k) (same_bytes k p.key) (list_any (λ q. same_bytes k q.key) pairs) p.value (kind_set_by pairs k)
 
-pub ruleset name_ties = (coll_tie, oid_tie)
-
 pub ruleset kinds = (kind_if, kind_gone, kind_set, kind_set_by)

@@ -31,11 +31,13 @@ RowLaw = (O : Objects) (op : Op) → IsAllowed O op → (x : Cell) → cells_of 
 
 -- and so do several
 abbrev pub FoldLaw : Type 0
-FoldLaw = (O : Objects) (ops : List Op) → AreAllowed O ops → (x : Cell) → cells_of (fold_ops O ops) x ≡ fold raise (map act_of ops) (cells_of O) x
+FoldLaw = (O : Objects) (ops : List Op) → AreAllowed O ops → (x : Cell)
+    → cells_of (fold_ops O ops) x ≡ fold raise (map act_of ops) (cells_of O) x
 
 -- objects are determined by which collections are there, and by their cells
 abbrev pub DeterminedLaw : Type 0
-DeterminedLaw = (O P : Objects) → ((c : Coll) → fin.contains_key O c ≡ fin.contains_key P c) → ((x : Cell) → cells_of O x ≡ cells_of P x) → O ≡ P
+DeterminedLaw = (O P : Objects) → ((c : Coll) → fin.contains_key O c ≡ fin.contains_key P c)
+    → ((x : Cell) → cells_of O x ≡ cells_of P x) → O ≡ P
 
 -- replay of operations that begin with the objects O, over the cells of start
 abbrev pub replay_of : Objects → List Op → (Cell → Value) → (Cell → ℕ) → Case Cell Value
@@ -43,12 +45,17 @@ replay_of O ops start skips = record { raise = raise; ops = map act_of ops; befo
 
 -- from a good start guarded replay gives each cell its value in the objects that the operations mean
 abbrev pub ReplayOfOps : Type 0
-ReplayOfOps = (O : Objects) (ops : List Op) → AreAllowed O ops → (start : Cell → Value) (skips : Cell → ℕ) → GoodStart (replay_of O ops start skips) → (end : Cell → Value) → Replayed (replay_of O ops start skips) (length ops) end → (x : Cell) → end x ≡ cells_of (fold_ops O ops) x
+ReplayOfOps = (O : Objects) (ops : List Op) → AreAllowed O ops → (start : Cell → Value) (skips : Cell → ℕ)
+    → GoodStart (replay_of O ops start skips) → (end : Cell → Value)
+    → Replayed (replay_of O ops start skips) (length ops) end → (x : Cell) → end x ≡ cells_of (fold_ops O ops) x
 
 -- a start is good for one end alone, where the same collections are there
 abbrev pub UniqueEnd : Type 0
-UniqueEnd = (O P : Objects) (ops : List Op) → AreAllowed O ops → AreAllowed P ops → (start : Cell → Value) (skips : Cell → ℕ) → GoodStart (replay_of O ops start skips) → GoodStart (replay_of P ops start skips)
-    → ((c : Coll) → fin.contains_key (fold_ops O ops) c ≡ fin.contains_key (fold_ops P ops) c) → fold_ops O ops ≡ fold_ops P ops
+UniqueEnd = (O P : Objects) (ops : List Op) → AreAllowed O ops → AreAllowed P ops
+    → (start : Cell → Value) (skips : Cell → ℕ) → GoodStart (replay_of O ops start skips)
+    → GoodStart (replay_of P ops start skips)
+    → ((c : Coll) → fin.contains_key (fold_ops O ops) c ≡ fin.contains_key (fold_ops P ops) c)
+    → fold_ops O ops ≡ fold_ops P ops
 
 -- the cell is of a collection that the operation names
 abbrev pub is_named : Op → Cell → Bool

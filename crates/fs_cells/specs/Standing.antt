@@ -37,11 +37,14 @@ StandsForObjects ops cells guards O = StandsFor raise ops cells guards (cells_of
 -- An image past n transactions, and a journal that gave up the first p and holds those up to end, stand for the objects after
 -- the first end transactions.
 abbrev pub JoinLaw : Type 0
-JoinLaw = (O : Objects) (txns : List (List Op)) → AllAllowed O txns → (p n started end : ℕ) → p ≤ n → n ≤ started → started ≤ end → end ≤ length txns
-    → (cells : Cell → Value) (guards passed : Cell → ℕ) → ((x : Cell) → passed x ≤ count (history_of txns) started) → Image raise (cells_of O) (history_of txns) started n cells guards passed
+JoinLaw = (O : Objects) (txns : List (List Op)) → AllAllowed O txns → (p n started end : ℕ) → p ≤ n → n ≤ started
+    → started ≤ end → end ≤ length txns
+    → (cells : Cell → Value) (guards passed : Cell → ℕ) → ((x : Cell) → passed x ≤ count (history_of txns) started)
+    → Image raise (cells_of O) (history_of txns) started n cells guards passed
     → StandsForObjects (flat (above (history_of txns) p n end)) cells (λ x. guards x - count (history_of txns) n) (fold_txns O (take end txns))
 
 -- and for none else with these collections
 abbrev pub OnceLaw : Type 0
-OnceLaw = (ops : List (Cell → Act Cell Value)) (cells : Cell → Value) (guards : Cell → ℕ) (O P : Objects) → ((c : Coll) → fin.contains_key O c ≡ fin.contains_key P c)
+OnceLaw = (ops : List (Cell → Act Cell Value)) (cells : Cell → Value) (guards : Cell → ℕ) (O P : Objects)
+    → ((c : Coll) → fin.contains_key O c ≡ fin.contains_key P c)
     → StandsForObjects ops cells guards O → StandsForObjects ops cells guards P → O ≡ P

@@ -1,5 +1,5 @@
 ghost use Rattle.std.specs.Prelude.{◌≡◌};
-ghost use Rattle.fs_cells.specs.Actions.{is_of};
+ghost use Rattle.fs_cells.specs.Actions.{in_coll, is_of};
 
 use fs_model::Blob;
 use fs_names::{Coll, Oid};
@@ -29,12 +29,20 @@ pub struct Cell {
 }
 
 impl Cell {
+    /// Whether it is of an object of this collection.
+    #[tactic(auto, using(crate::proofs::Ties::coll_tie))]
+    pub fn is_in(&self, c: &Coll) -> bool
+        ensures { result ≡ in_coll c.now self.now }
+    {
+        self.c == *c
+    }
+
     /// Whether it is a part of this object.
-    #[tactic(auto, using(crate::proofs::Ties::name_ties))]
+    #[tactic(auto, using(crate::proofs::Ties::oid_tie))]
     pub fn is_of(&self, c: &Coll, o: &Oid) -> bool
         ensures { result ≡ is_of c.now o.now self.now }
     {
-        self.c == *c && self.o == *o
+        self.is_in(c) && self.o == *o
     }
 }
 

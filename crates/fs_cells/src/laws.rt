@@ -1,3 +1,8 @@
+ghost use Rattle.replay_laws.specs.Replay.{Raises};
+ghost use Rattle.replay_laws.specs.Keeps.{KeepsLaw};
+ghost use Rattle.replay_laws.specs.Places.{PlacesLaw};
+ghost use Rattle.fs_cells.specs.declared.cell.Cell.{Cell};
+ghost use Rattle.fs_cells.specs.Values.{Value, raise};
 ghost use Rattle.fs_cells.specs.Laws.{DeterminedLaw, FoldLaw, LeavesOthers, OmapApart, ReadsOwn, ReplayOfOps, RowLaw, UniqueEnd};
 ghost use Rattle.fs_cells.specs.Standing.{JoinLaw, OnceLaw, TxnsWithin};
 
@@ -39,4 +44,12 @@ pub fn stands_law()
     ensures within { TxnsWithin }
     ensures join { JoinLaw }
     ensures once { OnceLaw }
+{}
+
+/// What a store keeps while it applies operations, or replays them, so that each start that a crash leaves is good; with one
+/// open transaction and with several.
+pub fn keeps_law()
+    ensures raising { Raises raise }
+    ensures one { KeepsLaw Cell Value }
+    ensures several { PlacesLaw Cell Value }
 {}

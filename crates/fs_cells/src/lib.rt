@@ -6,10 +6,13 @@
 //! `Laws.antt` that this is what operations mean, and that guarded replay of a journal ends in the objects after it.
 #![tactic(auto)]
 
-mod action;
+mod actions;
 mod cell;
 mod laws;
 
-pub use action::action;
+pub use actions::action;
 pub use cell::{Act, Cell, Part};
-pub use laws::{cells_law, reads_law, replay_law, row_law, stands_law, unique_law};
+pub use laws::{cells_law, keeps_law, reads_law, replay_law, row_law, stands_law, unique_law};
+
+#[cfg(test)]
+mod tests;

@@ -1,7 +1,7 @@
 -- Which starts of the example are good.
 use Rattle.std.proofs.Common.{◌≡◌, ◌⊎◌, inl, inr, ℕ, zero, suc, ◌<◌, ◌≤◌, refl, sym, ◌∙◌, ap, subst, arith}
-use Rattle.replay_laws.specs.Replay.{becomes, effect, Source, act, after, Renews, Harmless, harmless, Had, RenewedBefore, GoodStart}
-use Rattle.replay_laws.specs.Examples.{Three, source, copy, target, clone_op, move_op, three, left, ExamplesLaw}
+use Rattle.replay_laws.specs.Replay.{becomes, effect, Source, act, after, Harmless, harmless, Had, RenewedBefore, GoodStart}
+use Rattle.replay_laws.specs.Examples.{Three, source, copy, target, three, left, ExamplesLaw}
 use Rattle.replay_laws.proofs.Settled.{stays_not}
 
 module _ (values guards : Three → ℕ) where

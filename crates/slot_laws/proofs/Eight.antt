@@ -1,7 +1,7 @@
 -- Eight transactions that are open at once.
-use Rattle.std.proofs.Common.{◌≡◌, ◌⊎◌, inl, inr, ℕ, zero, suc, ◌<◌, ◌≤◌, Bool, false, ◌==◌, length, refl, sym, subst, arith}
+use Rattle.std.proofs.Common.{◌≡◌, ℕ, zero, suc, ◌<◌, refl, sym, subst, arith}
 use Rattle.std.proofs.lemmas.Bool.Decides.{nat_tests}
-use Rattle.slot_laws.specs.History.{Txn, txn, Apart, Open, IsOpen}
+use Rattle.slot_laws.specs.History.{Txn, txn, Apart, IsOpen}
 use Rattle.slot_laws.specs.Eight.{small_txn, eight, EightOpen}
 
 apart : (i j : ℕ) → i < j → Apart (small_txn i) (small_txn j)

@@ -9,7 +9,7 @@ use crate::{Act, Cell, Part};
 use fs_model::{Blob, Op, Pair};
 
 /// What the operation does to the cell. It takes no memory.
-#[tactic(auto, using(crate::proofs::Ties::kinds, crate::proofs::Ties::name_ties))]
+#[tactic(auto, using(crate::proofs::Ties::kinds))]
 pub fn action(op: &Op, cell: &Cell) -> Act
     ensures { result ≡ kind (act_of op.now cell.now) }
 {
@@ -35,7 +35,7 @@ pub fn action(op: &Op, cell: &Cell) -> Act
         } if cell.is_of(c2, o2) => copy_range(*len, *to, part),
         Op::MoveRename { c2, o2, .. } if cell.is_of(c2, o2) => copy(part),
         Op::MoveRename { c, o, .. } if cell.is_of(c, o) => Act::Sets,
-        Op::RmColl { c } if *c == cell.c => Act::Sets,
+        Op::RmColl { c } if cell.is_in(c) => Act::Sets,
         Op::OmapClear { c, o } if cell.is_of(c, o) => clear_omap(part),
         Op::OmapSet {
             c,
@@ -174,15 +174,19 @@ fn remove_keys(keys: &[Blob], part: &Part) -> Act
 {
     match part {
         Part::Exists => Act::Sets,
-        Part::OmapKey(key) => {
-            if keys.iter().any(|other| *key == *other) {
-                Act::Sets
-            } else {
-                Act::Leaves
-            }
-        }
+        Part::OmapKey(key) => if is_listed(keys, key) {
+            Act::Sets
+        } else {
+            Act::Leaves
+        },
         _ => Act::Leaves,
     }
+}
+
+fn is_listed(keys: &[Blob], key: &Blob) -> bool
+    ensures { result ≡ list_any (same_bytes key.now) keys.now }
+{
+    keys.iter().any(|other| *key == *other)
 }
 
 #[tactic(auto, using(crate::proofs::Ties::kinds))]
