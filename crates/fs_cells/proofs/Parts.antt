@@ -5,7 +5,7 @@ use Rattle.std.proofs.lemmas.Bool.Decides.{nat_tests}
 use Rattle.std.proofs.lemmas.Grind.{common_steps}
 use Rattle.std.specs.Prelude.{nat_lt, nat_le}
 use Rattle.std.specs.List.{list_any}
-use Rattle.std.specs.Option.{option_map, option_or, unwrap_or}
+use Rattle.std.specs.Option.{option_or, unwrap_or}
 use Rattle.std.specs.declared.cmp.Ordering.{Ordering}
 use Rattle.std.specs.declared.cmp.Ordering.TheVariants.{Equal}
 use Rattle.std.specs.Ordering.{nat_cmp, eq_by_cmp}
@@ -153,11 +153,11 @@ get-set_pairs m (p ∷ pairs) k =
     ∙ ap (option_or (value_in pairs k)) (map.get-insert nat_list_cmp_total m p.key p.value k)
     ∙ or_else_twice (value_in pairs k) (same_bytes k p.key) p.value (map.get m k)
 
-set_cell : (v was : Option (List ℕ)) (s : Cell → Value) → content (option_or v was) ≡ moved raise (effect (set_to (option_map Some v)) s) (content was)
+set_cell : (v was : Option (List ℕ)) (s : Cell → Value) → content (option_or v was) ≡ moved raise (effect (set_to v) s) (content was)
 set_cell None was s = refl
 set_cell (Some v) was s = refl
 
-set_header : (v : Option (List ℕ)) (was : List ℕ) (s : Cell → Value) → content (Some (unwrap_or v was)) ≡ moved raise (effect (set_to (option_map Some v)) s) (content (Some was))
+set_header : (v : Option (List ℕ)) (was : List ℕ) (s : Cell → Value) → content (Some (unwrap_or v was)) ≡ moved raise (effect (set_to v) s) (content (Some was))
 set_header None was s = refl
 set_header (Some v) was s = refl
 

@@ -2,7 +2,6 @@
 use Rattle.std.proofs.Common.{◌≡◌, ◌⊎◌, inl, inr, ℕ, ◌+◌, ◌-◌, Bool, true, false, cond, ◌&&◌, ◌||◌, List, [], ◌∷◌, length, get_or, Option, Some, None, refl, sym, ◌∙◌, ap, subst}
 use Rattle.std.specs.Prelude.{nat_lt, nat_le}
 use Rattle.std.specs.List.{list_any}
-use Rattle.std.specs.Option.{option_map}
 use Rattle.std.specs.Ordering.{eq_by_cmp}
 use Rattle.std.specs.Cmp.{eq_by_cmp_equiv}
 use Rattle.fs_names.specs.declared.coll.Coll.{Coll}
@@ -30,7 +29,7 @@ unless_chosen : (t : Bool) (a : CellAct) (y : Cell) → (Source a y → ⊥) →
 unless_chosen true a y none s = none s
 unless_chosen false a y none s = s
 
-no_set : (v : Option (Option (List ℕ))) (y : Cell) → Source (set_to v) y → ⊥
+no_set : (v : Option (List ℕ)) (y : Cell) → Source (set_to v) y → ⊥
 no_set None y s = s
 no_set (Some v) y s = s
 
@@ -66,7 +65,7 @@ attrs_set_plain : (pairs : List Pair) → Plain (attrs_set pairs)
 attrs_set_plain pairs Exists y s = s
 attrs_set_plain pairs Length y s = s
 attrs_set_plain pairs (Byte i) y s = s
-attrs_set_plain pairs (Attr k) y s = no_set (option_map Some (value_in pairs k)) y s
+attrs_set_plain pairs (Attr k) y s = no_set (value_in pairs k) y s
 attrs_set_plain pairs OmapHeader y s = s
 attrs_set_plain pairs (OmapKey k) y s = s
 
@@ -99,8 +98,8 @@ omap_set_plain header pairs Exists y s = s
 omap_set_plain header pairs Length y s = s
 omap_set_plain header pairs (Byte i) y s = s
 omap_set_plain header pairs (Attr k) y s = s
-omap_set_plain header pairs OmapHeader y s = no_set (option_map Some header) y s
-omap_set_plain header pairs (OmapKey k) y s = no_set (option_map Some (value_in pairs k)) y s
+omap_set_plain header pairs OmapHeader y s = no_set header y s
+omap_set_plain header pairs (OmapKey k) y s = no_set (value_in pairs k) y s
 
 omap_removed_plain : (keys : List (List ℕ)) → Plain (omap_removed keys)
 omap_removed_plain keys Exists y s = s

@@ -3,7 +3,7 @@ use Rattle.std.proofs.Common.{◌≡◌, ℕ, ◌+◌, ◌-◌, Bool, true, fals
 use Rattle.std.proofs.lemmas.Bool.Decides.{nat_tests}
 use Rattle.std.specs.Prelude.{nat_lt, nat_le}
 use Rattle.std.specs.List.{list_any}
-use Rattle.std.specs.Option.{option_map, option_or}
+use Rattle.std.specs.Option.{option_or}
 use Rattle.std.specs.Ordering.{eq_by_cmp}
 use Rattle.fs_names.specs.declared.coll.Coll.{Coll}
 use Rattle.fs_names.specs.declared.oid.Oid.{Oid}
@@ -32,19 +32,19 @@ pub kind_gone : (t : Bool) → kind (gone_if t) ≡ cond t Sets Leaves
 kind_gone true = refl
 kind_gone false = refl
 
-pub kind_set : (v : Option (List ℕ)) → kind (set_to (option_map Some v)) ≡ cond (is_some v) Sets Leaves
+pub kind_set : (v : Option (List ℕ)) → kind (set_to v) ≡ cond (is_some v) Sets Leaves
 kind_set None = refl
 kind_set (Some v) = refl
 
-one_more : (v : Option (List ℕ)) (t others : Bool) (w : List ℕ) → kind (set_to (option_map Some v)) ≡ cond others Sets Leaves
-    → kind (set_to (option_map Some (option_or v (cond t (Some w) None)))) ≡ cond (t || others) Sets Leaves
+one_more : (v : Option (List ℕ)) (t others : Bool) (w : List ℕ) → kind (set_to v) ≡ cond others Sets Leaves
+    → kind (set_to (option_or v (cond t (Some w) None))) ≡ cond (t || others) Sets Leaves
 one_more None true others w is = refl
 one_more None false others w is = is
 one_more (Some v) true others w is = refl
 one_more (Some v) false others w is = is
 
 -- a key is set where the list has a pair of it
-pub kind_set_by : (pairs : List Pair) (k : List ℕ) → kind (set_to (option_map Some (value_in pairs k))) ≡ cond (list_any (λ p. same_bytes k p.key) pairs) Sets Leaves
+pub kind_set_by : (pairs : List Pair) (k : List ℕ) → kind (set_to (value_in pairs k)) ≡ cond (list_any (λ p. same_bytes k p.key) pairs) Sets Leaves
 kind_set_by [] k = refl
 kind_set_by (p ∷ pairs) k = one_more (value_in pairs k) (same_bytes k p.key) (list_any (λ q. same_bytes k q.key) pairs) p.value (kind_set_by pairs k)
 

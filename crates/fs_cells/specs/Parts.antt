@@ -1,7 +1,7 @@
 -- What an operation does to the parts of the object that it changes.
 use Rattle.std.specs.Prelude.{ℕ, ◌+◌, ◌-◌, min, Bool, true, if◌then◌else◌, ◌&&◌, nat_lt, nat_le, List, [], ◌∷◌, Option, None, Some}
 use Rattle.std.specs.List.{list_any}
-use Rattle.std.specs.Option.{option_or, option_map}
+use Rattle.std.specs.Option.{option_or}
 use Rattle.std.specs.Ordering.{nat_cmp, eq_by_cmp}
 use Rattle.std.specs.Cmp.Lexicographic.{slice_cmp}
 use Rattle.fs_names.specs.declared.coll.Coll.{Coll}
@@ -47,21 +47,23 @@ removed part = sets (absent part)
 abbrev pub same_bytes : List ℕ → List ℕ → Bool
 same_bytes = eq_by_cmp (slice_cmp nat_cmp)
 
--- the last value of a key in a list of pairs
+-- the value of a key's last pair in a list
 abbrev pub value_in : List Pair → List ℕ → Option (List ℕ)
 value_in [] k = None
 value_in (p ∷ pairs) k = option_or (value_in pairs k) (if same_bytes k p.key then Some p.value else None)
 
-abbrev pub set_to : Option (Option (List ℕ)) → CellAct
+-- what is set, where something is
+abbrev pub set_to : Option (List ℕ) → CellAct
 set_to None = leaves
-set_to (Some v) = sets (content v)
+set_to (Some v) = sets (content (Some v))
 
+-- the value goes, under a test
 abbrev pub gone_if : Bool → CellAct
 gone_if b = if b then sets (content None) else leaves
 
 abbrev pub attrs_set : List Pair → Part → CellAct
 attrs_set pairs Exists = sets (flag true)
-attrs_set pairs (Attr k) = set_to (option_map Some (value_in pairs k))
+attrs_set pairs (Attr k) = set_to (value_in pairs k)
 attrs_set pairs part = leaves
 
 abbrev pub attr_removed : List ℕ → Part → CellAct
@@ -82,8 +84,8 @@ omap_cleared part = leaves
 
 abbrev pub omap_set : Option (List ℕ) → List Pair → Part → CellAct
 omap_set header pairs Exists = sets (flag true)
-omap_set header pairs OmapHeader = set_to (option_map Some header)
-omap_set header pairs (OmapKey k) = set_to (option_map Some (value_in pairs k))
+omap_set header pairs OmapHeader = set_to header
+omap_set header pairs (OmapKey k) = set_to (value_in pairs k)
 omap_set header pairs part = leaves
 
 abbrev pub omap_removed : List (List ℕ) → Part → CellAct

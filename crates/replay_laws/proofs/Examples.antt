@@ -1,7 +1,7 @@
 -- Which starts of the example are good.
 use Rattle.std.proofs.Common.{◌≡◌, ◌⊎◌, inl, inr, ℕ, zero, suc, ◌<◌, ◌≤◌, refl, sym, ◌∙◌, ap, subst, arith}
-use Rattle.replay_laws.specs.Replay.{becomes, effect, Source, act, after, Harmless, harmless, Had, RenewedBefore, GoodStart}
-use Rattle.replay_laws.specs.Examples.{Three, source, copy, target, three, left, ExamplesLaw}
+use Rattle.replay_laws.specs.Replay.{becomes, effect, Source, act, after, Harmless, harmless, Had, RenewedBefore, GoodStart, Replayed}
+use Rattle.replay_laws.specs.Examples.{Three, source, copy, target, three, left, added, ExamplesLaw}
 use Rattle.replay_laws.proofs.Settled.{stays_not}
 
 module _ (values guards : Three → ℕ) where
@@ -76,6 +76,39 @@ free_copy = harmless 2 (omega arith) (record { is_op = omega arith; not_skipped 
     rest (suc (suc zero)) target from to reads over = absurd (omega arith)
     rest (suc (suc (suc i))) z from to reads over = absurd (omega arith)
 
+eight_not_five : ◌≡◌ {A = ℕ} 8 5 → ⊥
+eight_not_five is = absurd (omega arith)
+
+content_missing : GoodStart (left (three 5 8 9) (three 0 1 0)) → ⊥
+content_missing good = by (good.copied 2 target (omega arith) (omega arith))
+  where
+    one_or_two : (m : ℕ) → 1 ≤ m → m ≤ 2 → (m ≡ 1) ⊎ (m ≡ 2)
+    one_or_two m from to = grind arith
+
+    had_five : (m : ℕ) → (m ≡ 1) ⊎ (m ≡ 2) → 8 ≡ after (left (three 5 8 9) (three 0 1 0)) m copy → ⊥
+    had_five m (inl is) value = eight_not_five (value ∙ ap (λ i. after (left (three 5 8 9) (three 0 1 0)) i copy) is)
+    had_five m (inr is) value = eight_not_five (value ∙ ap (λ i. after (left (three 5 8 9) (three 0 1 0)) i copy) is)
+
+    case_left : Had (left (three 5 8 9) (three 0 1 0)) copy 2 ⊎ RenewedBefore (left (three 5 8 9) (three 0 1 0)) copy 2 → ⊥
+    case_left (inl had) = had_five had.when (one_or_two had.when had.from_guard had.by) had.value
+    case_left (inr (m, lt, renews)) =
+        let is : m ≡ 1 = omega (arith, renews.not_skipped) in
+        stays_not (subst (λ i. effect (act (left (three 5 8 9) (three 0 1 0)) i copy) (after (left (three 5 8 9) (three 0 1 0)) i) ≡ becomes renews.value) is renews.gives)
+
+    by : Harmless (left (three 5 8 9) (three 0 1 0)) 2 target ⊎ ((y : Three) → Source (act (left (three 5 8 9) (three 0 1 0)) 2 target) y → Had (left (three 5 8 9) (three 0 1 0)) y 2 ⊎ RenewedBefore (left (three 5 8 9) (three 0 1 0)) y 2) → ⊥
+    by (inl (harmless n later renewed others)) = absurd (omega (arith, renewed.is_op))
+    by (inr reads) = case_left (reads copy (inl refl))
+
+added_good : GoodStart added
+added_good = record { cells = λ x. inl (record { when = 1; from_guard = omega arith; by = omega arith; value = refl }); copied = copied }
+  where
+    copied : (j : ℕ) (x : Three) → j < 1 → 0 ≤ j → Harmless added j x ⊎ ((y : Three) → Source (act added j x) y → Had added y j ⊎ RenewedBefore added y j)
+    copied zero x lt over = inr (λ y none. absurd none)
+    copied (suc j) x lt over = absurd (omega arith)
+
+added_replayed : Replayed added 1 (λ x. 2)
+added_replayed = ((λ x. 1), (λ x. refl), record { skipped = λ x lt. absurd (omega arith); done = λ x le. inr refl })
+
 nothing_had : (x : Three) → Had (left (three 5 8 9) (three 0 0 0)) x 3
 nothing_had source = record { when = 0; from_guard = omega arith; by = omega arith; value = refl }
 nothing_had copy = record { when = 0; from_guard = omega arith; by = omega arith; value = refl }
@@ -114,4 +147,8 @@ examples_law = record {
   moved = good_if (three 7 0 5) (three 0 0 3) moved_had (λ le. inl free_copy) (λ le. absurd (omega arith));
   not_unguarded = source_written 5 9 (three 0 0 0) (omega arith) (omega arith);
   not_one_less = source_written 0 5 (three 0 0 2) (omega arith) (omega arith);
+  not_before_content = content_missing;
+  added_good = added_good;
+  added_replayed = added_replayed;
+  added_meant = refl;
 }

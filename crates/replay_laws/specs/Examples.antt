@@ -1,6 +1,6 @@
 -- A clone, a write to its source and a move of the copy: which of what a crash may leave is a good start.
-use Rattle.std.specs.Prelude.{◌≡◌, ℕ, max, List, [], ◌∷◌}
-use Rattle.replay_laws.specs.Replay.{Effect, stays, becomes, Act, leaves, sets, copies, Case, fold, GoodStart}
+use Rattle.std.specs.Prelude.{◌≡◌, ℕ, ◌+◌, max, List, [], ◌∷◌}
+use Rattle.replay_laws.specs.Replay.{Effect, stays, becomes, Act, leaves, sets, raises, copies, Case, fold, GoodStart, Replayed}
 
 pub data Three : Type 0 where
   source : Three
@@ -39,6 +39,13 @@ ops = clone_op ∷ write_op ∷ move_op ∷ []
 abbrev pub left : (Three → ℕ) → (Three → ℕ) → Case Three ℕ
 left values guards = record { raise = max; ops = ops; before = three 5 8 9; start = values; skips = guards }
 
+-- one operation adds 1 to what was 0, and a crash left it done
+abbrev pub add : ℕ → ℕ → ℕ
+add n m = n + m
+
+abbrev pub added : Case Three ℕ
+added = record { raise = add; ops = (λ x. raises 1) ∷ []; before = λ x. 0; start = λ x. 1; skips = λ x. 0 }
+
 pub record ExamplesLaw : Type 0 where
   -- at the end the copy is gone, and the target has what the source was
   pub end_source : fold max ops (three 5 8 9) source ≡ 7
@@ -55,3 +62,9 @@ pub record ExamplesLaw : Type 0 where
   pub not_unguarded : GoodStart (left (three 7 5 9) (three 0 0 0)) → ⊥
   -- a guard of the move that counts the operations before it, and not the move
   pub not_one_less : GoodStart (left (three 7 0 5) (three 0 0 2)) → ⊥
+  -- a guard that stands before the copy's content
+  pub not_before_content : GoodStart (left (three 5 8 9) (three 0 1 0)) → ⊥
+  -- raising twice must be raising once: with a sum, replay of a good start ends with 2 in place of 1
+  pub added_good : GoodStart added
+  pub added_replayed : Replayed added 1 (λ x. 2)
+  pub added_meant : fold add added.ops added.before source ≡ 1
