@@ -6,8 +6,7 @@ use Rattle.std.specs.List.{list_any}
 use Rattle.std.specs.Option.{option_or}
 use Rattle.std.specs.Ordering.{eq_by_cmp}
 use Rattle.fs_names.specs.declared.coll.Coll.{Coll}
-use Rattle.fs_names.specs.declared.oid.Oid.{Oid}
-use Rattle.fs_names.specs.Order.{oid_cmp, oid_field_cmp, coll_cmp, coll_field_cmp, oid_cmp_total, oid_field_cmp_total, coll_cmp_total, coll_field_cmp_total, oid_cmp-IsAntisymmetric, oid_field_cmp-IsAntisymmetric, coll_cmp-IsAntisymmetric, coll_field_cmp-IsAntisymmetric, same_ties}
+use Rattle.fs_names.specs.Order.{coll_cmp, coll_field_cmp, coll_cmp_total, coll_field_cmp_total, coll_cmp-IsAntisymmetric, coll_field_cmp-IsAntisymmetric, same_ties}
 use Rattle.fs_model.specs.declared.pair.Pair.{Pair}
 use Rattle.replay_laws.specs.Replay.{leaves}
 use Rattle.fs_cells.specs.declared.cell.Act.{Act}
@@ -17,9 +16,6 @@ use Rattle.fs_cells.specs.Actions.{kind}
 
 pub coll_tie : (a b : Coll) → eq_by_cmp coll_field_cmp a b ≡ eq_by_cmp coll_cmp a b
 coll_tie a b = same_ties coll_field_cmp_total coll_cmp_total coll_field_cmp-IsAntisymmetric coll_cmp-IsAntisymmetric a b
-
-pub oid_tie : (a b : Oid) → eq_by_cmp oid_field_cmp a b ≡ eq_by_cmp oid_cmp a b
-oid_tie a b = same_ties oid_field_cmp_total oid_cmp_total oid_field_cmp-IsAntisymmetric oid_cmp-IsAntisymmetric a b
 
 pub in_place : (at len place : ℕ) → (nat_le at place && nat_lt (place - at) len) ≡ is_within at len place
 in_place at len place = grind (arith, nat_tests)

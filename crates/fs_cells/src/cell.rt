@@ -38,7 +38,6 @@ impl Cell {
     }
 
     /// Whether it is a part of this object.
-    #[tactic(auto, using(crate::proofs::Ties::oid_tie))]
     pub fn is_of(&self, c: &Coll, o: &Oid) -> bool
         ensures { result ≡ is_of c.now o.now self.now }
     {
