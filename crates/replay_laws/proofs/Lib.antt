@@ -1,0 +1,6 @@
+pub mod Carried
+pub mod Keeps
+pub mod Places
+pub mod Settled
+pub mod Unique
+pub mod Walk

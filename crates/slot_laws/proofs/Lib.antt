@@ -1,0 +1,5 @@
+pub mod Flat
+pub mod Live
+pub mod Positions
+pub mod Slots
+pub mod Weaker
