@@ -8,4 +8,5 @@ pub mod Listing
 pub mod Maps
 pub mod Moving
 pub mod Renaming
+pub mod Room
 pub mod Subdirs
