@@ -60,6 +60,7 @@ read-touched O c o q p =
         let colls : q ≡ c = coll_cmp-IsAntisymmetric q c (tie _ (first _ _ e)) in
         let oids : p ≡ o = oid_cmp-IsAntisymmetric p o (tie _ (second (same_coll q c) _ e)) in
         ap (λ x. read_object O x o) (sym colls) ∙ ap (read_object O q) (sym oids)
+
     by : (a s : Bool) → (same_coll q c && same_oid p o) ≡ s → unwrap_or (cond (a && s) (Some (read_object O c o)) (look O q p)) empty_object ≡ read_object O q p
     by true true e = at e
     by true false e = refl

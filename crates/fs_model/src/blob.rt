@@ -111,7 +111,11 @@ fn after(bytes: &[u8], at: usize) -> &[u8]
 fn first(bytes: &[u8], len: usize) -> &[u8]
     ensures { result.now ≡ take len bytes.now }
 {
-    if len < bytes.len() { &bytes[..len] } else { bytes }
+    if len < bytes.len() {
+        &bytes[..len]
+    } else {
+        bytes
+    }
 }
 
 // Lengthens a list of bytes by zeros where it is shorter.

@@ -262,9 +262,8 @@ impl Op {
         ensures { first_and_second result ≡ colls_named self.now }
     {
         match *self {
-            Op::Clone { c, c2, .. }
-            | Op::CloneRange { c, c2, .. }
-            | Op::MoveRename { c, c2, .. } => (c, Some(c2)),
+            Op::Clone { c, c2, .. } | Op::CloneRange { c, c2, .. } | Op::MoveRename { c, c2, .. } =>
+                (c, Some(c2)),
             Op::Touch { c, .. }
             | Op::Write { c, .. }
             | Op::Zero { c, .. }

@@ -55,7 +55,8 @@ impl Op {
             }
             Op::Zero { at, len, .. } => passes_the_end(*at, *len),
             Op::Truncate { len, .. } => *len > OBJECT_BYTES,
-            Op::SetAttrs { pairs, .. } => pairs.slice().len() > OP_PAIRS || any_bad_attr(pairs.slice()),
+            Op::SetAttrs { pairs, .. } => pairs.slice().len() > OP_PAIRS
+                || any_bad_attr(pairs.slice()),
             Op::RmAttr { name, .. } => is_bad_attr_name(name),
             Op::CloneRange { from, len, to, .. } => {
                 passes_the_end(*from, *len) || passes_the_end(*to, *len)
@@ -65,7 +66,8 @@ impl Op {
                     || pairs.slice().len() > OP_PAIRS
                     || any_big_pair(pairs.slice())
             }
-            Op::OmapRemove { keys, .. } => keys.slice().len() > OP_PAIRS || any_big_key(keys.slice()),
+            Op::OmapRemove { keys, .. } => keys.slice().len() > OP_PAIRS
+                || any_big_key(keys.slice()),
             Op::OmapRange { from, to, .. } => is_big_key(from) || is_big_key(to),
             _ => false,
         }

@@ -11,39 +11,109 @@ use std::marker::Model;
 #[derive(Drop)]
 pub enum Op {
     /// Makes an object, empty, where there is none.
-    Touch { c: Coll, o: Oid },
+    Touch {
+        c: Coll,
+        o: Oid,
+    },
     /// Writes bytes from a place on.
-    Write { c: Coll, o: Oid, at: u64, bytes: Blob },
+    Write {
+        c: Coll,
+        o: Oid,
+        at: u64,
+        bytes: Blob,
+    },
     /// Writes zeros from a place on.
-    Zero { c: Coll, o: Oid, at: u64, len: u64 },
+    Zero {
+        c: Coll,
+        o: Oid,
+        at: u64,
+        len: u64,
+    },
     /// Gives the object a length; new bytes are 0.
-    Truncate { c: Coll, o: Oid, len: u64 },
+    Truncate {
+        c: Coll,
+        o: Oid,
+        len: u64,
+    },
     /// Takes the object away, with its attributes and its omap.
-    Remove { c: Coll, o: Oid },
+    Remove {
+        c: Coll,
+        o: Oid,
+    },
     /// Sets attributes, one after the other.
-    SetAttrs { c: Coll, o: Oid, pairs: PairList },
+    SetAttrs {
+        c: Coll,
+        o: Oid,
+        pairs: PairList,
+    },
     /// Takes an attribute away.
-    RmAttr { c: Coll, o: Oid, name: Blob },
+    RmAttr {
+        c: Coll,
+        o: Oid,
+        name: Blob,
+    },
     /// Takes all attributes away.
-    RmAttrs { c: Coll, o: Oid },
+    RmAttrs {
+        c: Coll,
+        o: Oid,
+    },
     /// Makes the second object a copy of the first.
-    Clone { c: Coll, o: Oid, c2: Coll, o2: Oid },
+    Clone {
+        c: Coll,
+        o: Oid,
+        c2: Coll,
+        o2: Oid,
+    },
     /// Writes the first object's bytes from `from` on, at most `len` of them, into the second from `to` on.
-    CloneRange { c: Coll, o: Oid, c2: Coll, o2: Oid, from: u64, len: u64, to: u64 },
+    CloneRange {
+        c: Coll,
+        o: Oid,
+        c2: Coll,
+        o2: Oid,
+        from: u64,
+        len: u64,
+        to: u64,
+    },
     /// Makes the second object what the first was, and takes the first away.
-    MoveRename { c: Coll, o: Oid, c2: Coll, o2: Oid },
+    MoveRename {
+        c: Coll,
+        o: Oid,
+        c2: Coll,
+        o2: Oid,
+    },
     /// Makes a collection, empty.
-    MkColl { c: Coll },
+    MkColl {
+        c: Coll,
+    },
     /// Takes a collection away, with all in it.
-    RmColl { c: Coll },
+    RmColl {
+        c: Coll,
+    },
     /// Takes all omap pairs away and empties the omap header.
-    OmapClear { c: Coll, o: Oid },
+    OmapClear {
+        c: Coll,
+        o: Oid,
+    },
     /// Sets the omap header, where one is given, and then omap pairs, one after the other.
-    OmapSet { c: Coll, o: Oid, header: Option<Blob>, pairs: PairList },
+    OmapSet {
+        c: Coll,
+        o: Oid,
+        header: Option<Blob>,
+        pairs: PairList,
+    },
     /// Takes omap pairs away, by their keys.
-    OmapRemove { c: Coll, o: Oid, keys: BlobList },
+    OmapRemove {
+        c: Coll,
+        o: Oid,
+        keys: BlobList,
+    },
     /// Takes the omap pairs away whose keys are from `from` up to, not including, `to`, in byte order.
-    OmapRange { c: Coll, o: Oid, from: Blob, to: Blob },
+    OmapRange {
+        c: Coll,
+        o: Oid,
+        from: Blob,
+        to: Blob,
+    },
 }
 
 /// A list of operations.

@@ -115,14 +115,25 @@ impl PlainObjects {
             Op::RmAttr { c, o, name } => self.edit(c, o, &Edit::RmAttr { name }),
             Op::RmAttrs { c, o } => self.edit(c, o, &Edit::RmAttrs),
             Op::Clone { c, o, c2, o2 } => self.copy_object(c, o, c2, o2),
-            Op::CloneRange { c, o, c2, o2, from, len, to } => {
-                self.copy_part(c, o, c2, o2, (*from, *len, *to))
-            }
+            Op::CloneRange {
+                c,
+                o,
+                c2,
+                o2,
+                from,
+                len,
+                to,
+            } => { self.copy_part(c, o, c2, o2, (*from, *len, *to)) }
             Op::MoveRename { c, o, c2, o2 } => self.move_object(c, o, c2, o2),
             Op::MkColl { c } => self.make(c),
             Op::RmColl { c } => Ok(self.drop_coll(c)),
             Op::OmapClear { c, o } => self.edit(c, o, &Edit::OmapClear),
-            Op::OmapSet { c, o, header, pairs } => {
+            Op::OmapSet {
+                c,
+                o,
+                header,
+                pairs,
+            } => {
                 let pairs = pairs.slice();
                 self.edit(c, o, &Edit::OmapSet { header, pairs })
             }

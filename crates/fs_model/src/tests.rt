@@ -127,17 +127,39 @@ fn each_operation_has_its_limits(rt: HostRuntime) -> Result<(), Fail> {
         (1, 16_777_216, at(Why::TooBig)),
         (u64::MAX, 1, at(Why::TooBig)),
     ] {
-        assert_eq!(rt; fault_of(alloc, zero(alloc, from, len))?, want, "{len} at {from}");
+        assert_eq!(rt;
+            fault_of(alloc, zero(alloc, from, len))?,
+            want,
+            "{len} at {from}"
+        );
     }
-    assert_eq!(rt; fault_of(alloc, truncate(alloc, 16_777_217))?, at(Why::TooBig));
+    assert_eq!(rt;
+        fault_of(alloc, truncate(alloc, 16_777_217))?,
+        at(Why::TooBig)
+    );
     assert_eq!(rt; fault_of(alloc, rm_attr(alloc, b""))?, at(Why::TooBig));
     assert_eq!(rt; fault_of(alloc, rm_attr(alloc, &[7; 255]))?, None);
-    assert_eq!(rt; fault_of(alloc, rm_attr(alloc, &[7; 256]))?, at(Why::TooBig));
+    assert_eq!(rt;
+        fault_of(alloc, rm_attr(alloc, &[7; 256]))?,
+        at(Why::TooBig)
+    );
     assert_eq!(rt; fault_of(alloc, omap_remove(alloc, &[7; 1_024]))?, None);
-    assert_eq!(rt; fault_of(alloc, omap_remove(alloc, &[7; 1_025]))?, at(Why::TooBig));
-    assert_eq!(rt; fault_of(alloc, omap_range(alloc, b"", &[7; 1_025]))?, at(Why::TooBig));
-    assert_eq!(rt; fault_of(alloc, clone_to(alloc, b"a", 0, b"a"))?, at(Why::SameObject));
-    assert_eq!(rt; fault_of(alloc, move_to(alloc, b"a", 1, b"a"))?, at(Why::NoCollection));
+    assert_eq!(rt;
+        fault_of(alloc, omap_remove(alloc, &[7; 1_025]))?,
+        at(Why::TooBig)
+    );
+    assert_eq!(rt;
+        fault_of(alloc, omap_range(alloc, b"", &[7; 1_025]))?,
+        at(Why::TooBig)
+    );
+    assert_eq!(rt;
+        fault_of(alloc, clone_to(alloc, b"a", 0, b"a"))?,
+        at(Why::SameObject)
+    );
+    assert_eq!(rt;
+        fault_of(alloc, move_to(alloc, b"a", 1, b"a"))?,
+        at(Why::NoCollection)
+    );
     Ok(())
 }
 
@@ -249,12 +271,16 @@ fn omap_set(alloc: Global, header: Option<&[u8]>, text: &[u8]) -> Result<Op, Nam
     })
 }
 
+fn one_key(alloc: Global, key: &[u8]) -> Result<BlobList, AllocError> {
+    let key = blob(alloc, key)?;
+    Ok(BlobList::from_vec(vec![in alloc; key]?))
+}
+
 fn omap_remove(alloc: Global, key: &[u8]) -> Result<Op, NameFault> {
-    let keys = vec![in alloc; blob(alloc, key)?]?;
     Ok(Op::OmapRemove {
         c: group(0),
         o: named(alloc, b"a")?,
-        keys: BlobList::from_vec(keys),
+        keys: one_key(alloc, key)?,
     })
 }
 
@@ -324,11 +350,7 @@ fn show_pairs(alloc: Global, out: &mut Vec<u8>, map: &PairMap) -> Result<(), All
 }
 
 // An object as its bytes, attributes, omap header and pairs between bars; `-` where there is none.
-fn show(
-    alloc: Global,
-    out: &mut Vec<u8>,
-    object: Option<&PlainObject>,
-) -> Result<(), AllocError> {
+fn show(alloc: Global, out: &mut Vec<u8>, object: Option<&PlainObject>) -> Result<(), AllocError> {
     let Some(object) = object else {
         out.push(b'-')?;
         return Ok(());
@@ -379,13 +401,21 @@ fn operations_on_bytes_mean_their_rows(rt: HostRuntime) -> Result<(), Fail> {
         (5, 3, b"abcde\0\0\0|x1y2|h|p1q2r3 - -"),
         (8, 0, b"abcdef|x1y2|h|p1q2r3 - -"),
     ] {
-        assert_eq!(rt; after(alloc, zero(alloc, at, len))?.as_slice(), want, "{len} zeros at {at}");
+        assert_eq!(rt;
+            after(alloc, zero(alloc, at, len))?.as_slice(),
+            want,
+            "{len} zeros at {at}"
+        );
     }
     for (len, want) in [
         (2, b"ab|x1y2|h|p1q2r3 - -".as_slice()),
         (8, b"abcdef\0\0|x1y2|h|p1q2r3 - -"),
     ] {
-        assert_eq!(rt; after(alloc, truncate(alloc, len))?.as_slice(), want, "length {len}");
+        assert_eq!(rt;
+            after(alloc, truncate(alloc, len))?.as_slice(),
+            want,
+            "length {len}"
+        );
     }
     Ok(())
 }
@@ -394,32 +424,62 @@ fn operations_on_bytes_mean_their_rows(rt: HostRuntime) -> Result<(), Fail> {
 fn operations_on_pairs_mean_their_rows(rt: HostRuntime) -> Result<(), Fail> {
     let alloc = rt.alloc();
     for (pairs, want) in [
-        (b"x7z8x9".as_slice(), b"abcdef|x9y2z8|h|p1q2r3 - -".as_slice()),
+        (
+            b"x7z8x9".as_slice(),
+            b"abcdef|x9y2z8|h|p1q2r3 - -".as_slice(),
+        ),
         (b"", b"abcdef|x1y2|h|p1q2r3 - -"),
     ] {
-        assert_eq!(rt; after(alloc, set_attrs(alloc, pairs))?.as_slice(), want, "{pairs:?}");
+        assert_eq!(rt;
+            after(alloc, set_attrs(alloc, pairs))?.as_slice(),
+            want,
+            "{pairs:?}"
+        );
     }
     for (header, pairs, want) in [
-        (None, b"q7".as_slice(), b"abcdef|x1y2|h|p1q7r3 - -".as_slice()),
+        (
+            None,
+            b"q7".as_slice(),
+            b"abcdef|x1y2|h|p1q7r3 - -".as_slice(),
+        ),
         (Some(b"".as_slice()), b"o0", b"abcdef|x1y2||o0p1q2r3 - -"),
     ] {
-        assert_eq!(rt; after(alloc, omap_set(alloc, header, pairs))?.as_slice(), want, "{pairs:?}");
+        assert_eq!(rt;
+            after(alloc, omap_set(alloc, header, pairs))?.as_slice(),
+            want,
+            "{pairs:?}"
+        );
     }
     for (from, to, want) in [
-        (b"p".as_slice(), b"r".as_slice(), b"abcdef|x1y2|h|r3 - -".as_slice()),
+        (
+            b"p".as_slice(),
+            b"r".as_slice(),
+            b"abcdef|x1y2|h|r3 - -".as_slice(),
+        ),
         (b"", b"zz", b"abcdef|x1y2|h| - -"),
         (b"r", b"p", b"abcdef|x1y2|h|p1q2r3 - -"),
         (b"pp", b"q", b"abcdef|x1y2|h|p1q2r3 - -"),
     ] {
-        assert_eq!(rt; after(alloc, omap_range(alloc, from, to))?.as_slice(), want, "{from:?}");
+        assert_eq!(rt;
+            after(alloc, omap_range(alloc, from, to))?.as_slice(),
+            want,
+            "{from:?}"
+        );
     }
     for (key, want) in [
         (b"q".as_slice(), b"abcdef|x1y2|h|p1r3 - -".as_slice()),
         (b"o", b"abcdef|x1y2|h|p1q2r3 - -"),
     ] {
-        assert_eq!(rt; after(alloc, omap_remove(alloc, key))?.as_slice(), want, "{key:?}");
+        assert_eq!(rt;
+            after(alloc, omap_remove(alloc, key))?.as_slice(),
+            want,
+            "{key:?}"
+        );
     }
-    assert_eq!(rt; after(alloc, rm_attr(alloc, b"x"))?.as_slice(), b"abcdef|y2|h|p1q2r3 - -".as_slice());
+    assert_eq!(rt;
+        after(alloc, rm_attr(alloc, b"x"))?.as_slice(),
+        b"abcdef|y2|h|p1q2r3 - -".as_slice()
+    );
     Ok(())
 }
 
@@ -427,12 +487,20 @@ fn operations_on_pairs_mean_their_rows(rt: HostRuntime) -> Result<(), Fail> {
 fn operations_on_two_objects_mean_their_rows(rt: HostRuntime) -> Result<(), Fail> {
     let alloc = rt.alloc();
     for (name, seed, want) in [
-        (b"a".as_slice(), 1, b"abcdef|x1y2|h|p1q2r3 - abcdef|x1y2|h|p1q2r3".as_slice()),
+        (
+            b"a".as_slice(),
+            1,
+            b"abcdef|x1y2|h|p1q2r3 - abcdef|x1y2|h|p1q2r3".as_slice(),
+        ),
         (b"a", 0, b"abcdef|x1y2|h|p1q2r3 abcdef|x1y2|h|p1q2r3 -"),
         (b"m", 0, b"abcdef|x1y2|h|p1q2r3 ||| -"),
         (b"a", 9, b"abcdef|x1y2|h|p1q2r3 - -"),
     ] {
-        assert_eq!(rt; after(alloc, clone_to(alloc, name, seed, b"b"))?.as_slice(), want, "clone to {seed}");
+        assert_eq!(rt;
+            after(alloc, clone_to(alloc, name, seed, b"b"))?.as_slice(),
+            want,
+            "clone to {seed}"
+        );
     }
     for (name, seed, want) in [
         (b"a".as_slice(), 1, b"- - abcdef|x1y2|h|p1q2r3".as_slice()),
@@ -440,14 +508,22 @@ fn operations_on_two_objects_mean_their_rows(rt: HostRuntime) -> Result<(), Fail
         (b"m", 0, b"abcdef|x1y2|h|p1q2r3 ||| -"),
         (b"a", 9, b"abcdef|x1y2|h|p1q2r3 - -"),
     ] {
-        assert_eq!(rt; after(alloc, move_to(alloc, name, seed, b"b"))?.as_slice(), want, "move to {seed}");
+        assert_eq!(rt;
+            after(alloc, move_to(alloc, name, seed, b"b"))?.as_slice(),
+            want,
+            "move to {seed}"
+        );
     }
     for (from, len, to, want) in [
         (1, 2, 1, b"abcdef|x1y2|h|p1q2r3 - \0bc|||".as_slice()),
         (4, 9, 0, b"abcdef|x1y2|h|p1q2r3 - ef|||"),
         (9, 2, 5, b"abcdef|x1y2|h|p1q2r3 - |||"),
     ] {
-        assert_eq!(rt; after(alloc, clone_range(alloc, from, len, to))?.as_slice(), want, "{len} from {from}");
+        assert_eq!(rt;
+            after(alloc, clone_range(alloc, from, len, to))?.as_slice(),
+            want,
+            "{len} from {from}"
+        );
     }
     Ok(())
 }
@@ -457,14 +533,32 @@ fn operations_that_take_away_mean_their_rows(rt: HostRuntime) -> Result<(), Fail
     let alloc = rt.alloc();
     let c = group(0);
     let o = named(alloc, b"a")?;
-    assert_eq!(rt; after(alloc, Ok(Op::Remove { c, o }))?.as_slice(), b"- - -".as_slice());
+    assert_eq!(rt;
+        after(alloc, Ok(Op::Remove { c, o }))?.as_slice(),
+        b"- - -".as_slice()
+    );
     let o = named(alloc, b"a")?;
-    assert_eq!(rt; after(alloc, Ok(Op::RmAttrs { c, o }))?.as_slice(), b"abcdef||h|p1q2r3 - -".as_slice());
+    assert_eq!(rt;
+        after(alloc, Ok(Op::RmAttrs { c, o }))?.as_slice(),
+        b"abcdef||h|p1q2r3 - -".as_slice()
+    );
     let o = named(alloc, b"a")?;
-    assert_eq!(rt; after(alloc, Ok(Op::OmapClear { c, o }))?.as_slice(), b"abcdef|x1y2|| - -".as_slice());
-    assert_eq!(rt; after(alloc, Ok(Op::RmColl { c }))?.as_slice(), b"- - -".as_slice());
-    assert_eq!(rt; after(alloc, touch(alloc, 0))?.as_slice(), b"abcdef|x1y2|h|p1q2r3 - -".as_slice());
-    assert_eq!(rt; after(alloc, touch(alloc, 7))?.as_slice(), b"abcdef|x1y2|h|p1q2r3 - -".as_slice());
+    assert_eq!(rt;
+        after(alloc, Ok(Op::OmapClear { c, o }))?.as_slice(),
+        b"abcdef|x1y2|| - -".as_slice()
+    );
+    assert_eq!(rt;
+        after(alloc, Ok(Op::RmColl { c }))?.as_slice(),
+        b"- - -".as_slice()
+    );
+    assert_eq!(rt;
+        after(alloc, touch(alloc, 0))?.as_slice(),
+        b"abcdef|x1y2|h|p1q2r3 - -".as_slice()
+    );
+    assert_eq!(rt;
+        after(alloc, touch(alloc, 7))?.as_slice(),
+        b"abcdef|x1y2|h|p1q2r3 - -".as_slice()
+    );
     Ok(())
 }
 

@@ -7,8 +7,8 @@ ghost use Rattle.txn_codec.specs.Spelling.{payload, OpsFit};
 use crate::CodecFault;
 use crate::reader::Reader;
 use crate::tags::{
-    CLONE, CLONE_RANGE, MK_COLL, MOVE_RENAME, OMAP_CLEAR, OMAP_RANGE, OMAP_REMOVE, OMAP_SET, REMOVE,
-    RM_ATTR, RM_ATTRS, RM_COLL, SET_ATTRS, TOUCH, TRUNCATE, WRITE, ZERO,
+    CLONE, CLONE_RANGE, MK_COLL, MOVE_RENAME, OMAP_CLEAR, OMAP_RANGE, OMAP_REMOVE, OMAP_SET,
+    REMOVE, RM_ATTR, RM_ATTRS, RM_COLL, SET_ATTRS, TOUCH, TRUNCATE, WRITE, ZERO,
 };
 use fs_model::{Blob, BlobList, Op, OpList, Pair, PairList, TXN_OPS, Txn};
 use fs_names::{Coll, Oid, Snap};
@@ -219,7 +219,15 @@ impl Reader<'_> {
         let from = self.u64()?;
         let len = self.u64()?;
         let to = self.u64()?;
-        Ok(Op::CloneRange { c, o, c2, o2, from, len, to })
+        Ok(Op::CloneRange {
+            c,
+            o,
+            c2,
+            o2,
+            from,
+            len,
+            to,
+        })
     }
 
     fn move_rename(&mut self, alloc: Global) -> Result<Op, CodecFault>
@@ -257,7 +265,12 @@ impl Reader<'_> {
         let (c, o) = self.object(alloc)?;
         let header = self.header(alloc)?;
         let pairs = self.pairs(alloc)?;
-        Ok(Op::OmapSet { c, o, header, pairs })
+        Ok(Op::OmapSet {
+            c,
+            o,
+            header,
+            pairs,
+        })
     }
 
     fn omap_remove(&mut self, alloc: Global) -> Result<Op, CodecFault>

@@ -215,11 +215,16 @@ fn omap_set(alloc: Global, header: Option<Blob>) -> Result<Op, NameFault> {
     })
 }
 
+fn one_key(alloc: Global) -> Result<BlobList, AllocError> {
+    let key = Blob::new(alloc, b"k")?;
+    Ok(BlobList::from_vec(vec![in alloc; key]?))
+}
+
 fn omap_remove(alloc: Global) -> Result<Op, NameFault> {
     Ok(Op::OmapRemove {
         c: Coll::Meta,
         o: plain(alloc, b"a")?,
-        keys: BlobList::from_vec(vec![in alloc; Blob::new(alloc, b"k")?]?),
+        keys: one_key(alloc)?,
     })
 }
 
@@ -246,8 +251,8 @@ fn clone_range(alloc: Global) -> Result<Op, NameFault> {
 
 // `b` and three numbers.
 const CLONED_RANGE: [u8; 38] = [
-    0, 0, 1, 98, 0, 0, 0, 0, 0, 0, 0, 0, 1, 0, 0, 0, 0, 0, 0, 0, 0, 1, 0, 0, 0, 0, 0, 0, 0, 2, 0, 0,
-    0, 0, 0, 0, 0, 3,
+    0, 0, 1, 98, 0, 0, 0, 0, 0, 0, 0, 0, 1, 0, 0, 0, 0, 0, 0, 0, 0, 1, 0, 0, 0, 0, 0, 0, 0, 2, 0,
+    0, 0, 0, 0, 0, 0, 3,
 ];
 
 #[test]
@@ -260,11 +265,31 @@ fn pairs_and_keys_stand_behind_their_number(rt: HostRuntime) -> Result<(), Fail>
     let unheaded = [0, 0, 0, 0, 1, 0, 0, 0, 1, 107, 0, 0, 0, 2, 118, 119];
     let header = Blob::new(alloc, b"h")?;
     assert_eq!(rt; is_spelled(alloc, set_attrs(alloc), 6, &pairs)?, true);
-    assert_eq!(rt; is_spelled(alloc, omap_set(alloc, Some(header)), 15, &headed)?, true);
-    assert_eq!(rt; is_spelled(alloc, omap_set(alloc, None), 15, &unheaded)?, true);
-    assert_eq!(rt; is_spelled(alloc, omap_remove(alloc), 16, &[0, 0, 0, 1, 0, 0, 0, 1, 107])?, true);
-    assert_eq!(rt; is_spelled(alloc, omap_range(alloc), 17, &[0, 0, 0, 1, 107, 0, 0, 0, 0])?, true);
-    assert_eq!(rt; is_spelled(alloc, clone_range(alloc), 10, &CLONED_RANGE)?, true);
+    assert_eq!(rt;
+        is_spelled(alloc, omap_set(alloc, Some(header)), 15, &headed)?,
+        true
+    );
+    assert_eq!(rt;
+        is_spelled(alloc, omap_set(alloc, None), 15, &unheaded)?,
+        true
+    );
+    assert_eq!(rt;
+        is_spelled(
+            alloc,
+            omap_remove(alloc),
+            16,
+            &[0, 0, 0, 1, 0, 0, 0, 1, 107]
+        )?,
+        true
+    );
+    assert_eq!(rt;
+        is_spelled(alloc, omap_range(alloc), 17, &[0, 0, 0, 1, 107, 0, 0, 0, 0])?,
+        true
+    );
+    assert_eq!(rt;
+        is_spelled(alloc, clone_range(alloc), 10, &CLONED_RANGE)?,
+        true
+    );
     Ok(())
 }
 
@@ -276,16 +301,25 @@ fn each_tag_has_its_operation(rt: HostRuntime) -> Result<(), Fail> {
     let o = plain(alloc, b"a")?;
     assert_eq!(rt; is_spelled(alloc, Ok(Op::Touch { c, o }), 1, &[])?, true);
     let o = plain(alloc, b"a")?;
-    assert_eq!(rt; is_spelled(alloc, Ok(Op::Truncate { c, o, len: 7 }), 4, &seven)?, true);
+    assert_eq!(rt;
+        is_spelled(alloc, Ok(Op::Truncate { c, o, len: 7 }), 4, &seven)?,
+        true
+    );
     let o = plain(alloc, b"a")?;
     assert_eq!(rt; is_spelled(alloc, Ok(Op::Remove { c, o }), 5, &[])?, true);
     let o = plain(alloc, b"a")?;
     let name = Blob::new(alloc, b"k")?;
-    assert_eq!(rt; is_spelled(alloc, Ok(Op::RmAttr { c, o, name }), 7, &[0, 0, 0, 1, 107])?, true);
+    assert_eq!(rt;
+        is_spelled(alloc, Ok(Op::RmAttr { c, o, name }), 7, &[0, 0, 0, 1, 107])?,
+        true
+    );
     let o = plain(alloc, b"a")?;
     assert_eq!(rt; is_spelled(alloc, Ok(Op::RmAttrs { c, o }), 8, &[])?, true);
     let o = plain(alloc, b"a")?;
-    assert_eq!(rt; is_spelled(alloc, Ok(Op::OmapClear { c, o }), 14, &[])?, true);
+    assert_eq!(rt;
+        is_spelled(alloc, Ok(Op::OmapClear { c, o }), 14, &[])?,
+        true
+    );
     Ok(())
 }
 
@@ -295,25 +329,31 @@ fn an_operation_on_two_objects_names_both(rt: HostRuntime) -> Result<(), Fail> {
     let c = Coll::Meta;
     let o = plain(alloc, b"a")?;
     let o2 = plain(alloc, b"b")?;
-    assert_eq!(rt; is_spelled(alloc, Ok(Op::Clone { c, o, c2: c, o2 }), 9, &B)?, true);
+    assert_eq!(rt;
+        is_spelled(alloc, Ok(Op::Clone { c, o, c2: c, o2 }), 9, &B)?,
+        true
+    );
     let o = plain(alloc, b"a")?;
     let o2 = plain(alloc, b"b")?;
-    assert_eq!(rt; is_spelled(alloc, Ok(Op::MoveRename { c, o, c2: c, o2 }), 11, &B)?, true);
+    assert_eq!(rt;
+        is_spelled(alloc, Ok(Op::MoveRename { c, o, c2: c, o2 }), 11, &B)?,
+        true
+    );
     Ok(())
 }
 
 // Two operations: an omap set with a header and one pair, and a range of copied bytes.
 const MANY: [u8; 93] = [
-    0, 0, 0, 2, 15, 0, 0, 1, 97, 0, 0, 0, 0, 0, 0, 0, 0, 1, 0, 1, 0, 0, 0, 1, 104, 0, 0, 0, 1, 0, 0,
-    0, 1, 107, 0, 0, 0, 2, 118, 119, 10, 0, 0, 1, 97, 0, 0, 0, 0, 0, 0, 0, 0, 1, 0, 0, 0, 1, 98, 0,
-    0, 0, 0, 0, 0, 0, 0, 1, 0, 0, 0, 0, 0, 0, 0, 0, 1, 0, 0, 0, 0, 0, 0, 0, 2, 0, 0, 0, 0, 0, 0, 0,
-    3,
+    0, 0, 0, 2, 15, 0, 0, 1, 97, 0, 0, 0, 0, 0, 0, 0, 0, 1, 0, 1, 0, 0, 0, 1, 104, 0, 0, 0, 1, 0,
+    0, 0, 1, 107, 0, 0, 0, 2, 118, 119, 10, 0, 0, 1, 97, 0, 0, 0, 0, 0, 0, 0, 0, 1, 0, 0, 0, 1, 98,
+    0, 0, 0, 0, 0, 0, 0, 0, 1, 0, 0, 0, 0, 0, 0, 0, 0, 1, 0, 0, 0, 0, 0, 0, 0, 2, 0, 0, 0, 0, 0, 0,
+    0, 3,
 ];
 
 // The places where its fields begin.
 const FIELDS: [u64; 38] = [
-    0, 4, 5, 6, 8, 9, 11, 13, 14, 18, 19, 20, 24, 25, 29, 33, 34, 38, 40, 41, 42, 44, 45, 47, 49, 50,
-    54, 55, 56, 58, 59, 61, 63, 64, 68, 69, 77, 85,
+    0, 4, 5, 6, 8, 9, 11, 13, 14, 18, 19, 20, 24, 25, 29, 33, 34, 38, 40, 41, 42, 44, 45, 47, 49,
+    50, 54, 55, 56, 58, 59, 61, 63, 64, 68, 69, 77, 85,
 ];
 
 // The place of the field that a byte belongs to.
@@ -343,7 +383,11 @@ fn a_payload_that_is_cut_is_short_where_its_last_field_begins(rt: HostRuntime) {
     assert_eq!(rt; fault(rt.alloc(), &MANY), None);
     for len in 0..MANY.len() {
         let at = field_at(len as u64);
-        assert_eq!(rt; fault(rt.alloc(), &MANY[..len]), Some(CodecFault::Short { at }), "{len} bytes");
+        assert_eq!(rt;
+            fault(rt.alloc(), &MANY[..len]),
+            Some(CodecFault::Short { at }),
+            "{len} bytes"
+        );
     }
 }
 

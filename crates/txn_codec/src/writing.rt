@@ -7,8 +7,8 @@ ghost use Rattle.fs_model.specs.Limits.{ops_limit};
 ghost use Rattle.txn_codec.specs.Spelling.{sized, flag, coll, snap, pool, oid, object, count8, blob, pair, header, counted, op, payload, BlobFits, PairFits, AllFit, HeaderFits, ObjectFits, OpFits, OpsFit, IsShort};
 
 use crate::tags::{
-    CLONE, CLONE_RANGE, MK_COLL, MOVE_RENAME, OMAP_CLEAR, OMAP_RANGE, OMAP_REMOVE, OMAP_SET, REMOVE,
-    RM_ATTR, RM_ATTRS, RM_COLL, SET_ATTRS, TOUCH, TRUNCATE, WRITE, ZERO,
+    CLONE, CLONE_RANGE, MK_COLL, MOVE_RENAME, OMAP_CLEAR, OMAP_RANGE, OMAP_REMOVE, OMAP_SET,
+    REMOVE, RM_ATTR, RM_ATTRS, RM_COLL, SET_ATTRS, TOUCH, TRUNCATE, WRITE, ZERO,
 };
 use fs_model::{Blob, Op, Pair, Txn};
 use fs_names::{Coll, Name, Oid, Snap};
@@ -171,14 +171,16 @@ fn put_head(out: &mut Vec<u8>, tag: u8, c: &Coll, o: &Oid) -> Result<(), AllocEr
 fn put_two(
     out: &mut Vec<u8>,
     tag: u8,
-    first: (&Coll, &Oid),
-    second: (&Coll, &Oid),
+    c: &Coll,
+    o: &Oid,
+    c2: &Coll,
+    o2: &Oid,
 ) -> Result<(), AllocError>
-    ensures spelled { OnOk result (out.new.items ≡ out.old.items ++ tag ∷ (object first.0.now first.1.now ++ object second.0.now second.1.now)) }
-    ensures fits { OnOk result (ObjectFits first.0.now first.1.now × ObjectFits second.0.now second.1.now) }
+    ensures spelled { OnOk result (out.new.items ≡ out.old.items ++ tag ∷ (object c.now o.now ++ object c2.now o2.now)) }
+    ensures fits { OnOk result (ObjectFits c.now o.now × ObjectFits c2.now o2.now) }
 {
-    put_head(out, tag, first.0, first.1)?;
-    put_object(out, second.0, second.1)?;
+    put_head(out, tag, c, o)?;
+    put_object(out, c2, o2)?;
     Ok(())
 }
 
@@ -188,6 +190,15 @@ fn put_coll_op(out: &mut Vec<u8>, tag: u8, c: &Coll) -> Result<(), AllocError>
 {
     out.push(tag)?;
     put_coll(out, c)?;
+    Ok(())
+}
+
+fn put_two_blobs(out: &mut Vec<u8>, a: &Blob, b: &Blob) -> Result<(), AllocError>
+    requires { BlobFits a.now × BlobFits b.now }
+    ensures { OnOk result (out.new.items ≡ out.old.items ++ (blob a.now ++ blob b.now)) }
+{
+    put_blob(out, a)?;
+    put_blob(out, b)?;
     Ok(())
 }
 
@@ -206,53 +217,98 @@ fn put_op(out: &mut Vec<u8>, operation: &Op) -> Result<(), AllocError>
     ensures fits { OnOk result (OpFits operation.now) }
 {
     match operation {
-        Op::Touch { c, o } => put_head(out, TOUCH, c, o),
+        Op::Touch { c, o } => {
+            put_head(out, TOUCH, c, o)?;
+            Ok(())
+        }
         Op::Write { c, o, at, bytes } => {
             put_head(out, WRITE, c, o)?;
             put_u64(out, *at)?;
-            put_blob(out, bytes)
+            put_blob(out, bytes)?;
+            Ok(())
         }
         Op::Zero { c, o, at, len } => {
             put_head(out, ZERO, c, o)?;
-            put_two_numbers(out, *at, *len)
+            put_two_numbers(out, *at, *len)?;
+            Ok(())
         }
         Op::Truncate { c, o, len } => {
             put_head(out, TRUNCATE, c, o)?;
-            put_u64(out, *len)
+            put_u64(out, *len)?;
+            Ok(())
         }
-        Op::Remove { c, o } => put_head(out, REMOVE, c, o),
+        Op::Remove { c, o } => {
+            put_head(out, REMOVE, c, o)?;
+            Ok(())
+        }
         Op::SetAttrs { c, o, pairs } => {
             put_head(out, SET_ATTRS, c, o)?;
-            put_pairs(out, pairs.slice())
+            put_pairs(out, pairs.slice())?;
+            Ok(())
         }
         Op::RmAttr { c, o, name } => {
             put_head(out, RM_ATTR, c, o)?;
-            put_blob(out, name)
+            put_blob(out, name)?;
+            Ok(())
         }
-        Op::RmAttrs { c, o } => put_head(out, RM_ATTRS, c, o),
-        Op::Clone { c, o, c2, o2 } => put_two(out, CLONE, (c, o), (c2, o2)),
-        Op::CloneRange { c, o, c2, o2, from, len, to } => {
-            put_two(out, CLONE_RANGE, (c, o), (c2, o2))?;
+        Op::RmAttrs { c, o } => {
+            put_head(out, RM_ATTRS, c, o)?;
+            Ok(())
+        }
+        Op::Clone { c, o, c2, o2 } => {
+            put_two(out, CLONE, c, o, c2, o2)?;
+            Ok(())
+        }
+        Op::CloneRange {
+            c,
+            o,
+            c2,
+            o2,
+            from,
+            len,
+            to,
+        } => {
+            put_two(out, CLONE_RANGE, c, o, c2, o2)?;
             put_u64(out, *from)?;
-            put_two_numbers(out, *len, *to)
+            put_two_numbers(out, *len, *to)?;
+            Ok(())
         }
-        Op::MoveRename { c, o, c2, o2 } => put_two(out, MOVE_RENAME, (c, o), (c2, o2)),
-        Op::MkColl { c } => put_coll_op(out, MK_COLL, c),
-        Op::RmColl { c } => put_coll_op(out, RM_COLL, c),
-        Op::OmapClear { c, o } => put_head(out, OMAP_CLEAR, c, o),
-        Op::OmapSet { c, o, header, pairs } => {
+        Op::MoveRename { c, o, c2, o2 } => {
+            put_two(out, MOVE_RENAME, c, o, c2, o2)?;
+            Ok(())
+        }
+        Op::MkColl { c } => {
+            put_coll_op(out, MK_COLL, c)?;
+            Ok(())
+        }
+        Op::RmColl { c } => {
+            put_coll_op(out, RM_COLL, c)?;
+            Ok(())
+        }
+        Op::OmapClear { c, o } => {
+            put_head(out, OMAP_CLEAR, c, o)?;
+            Ok(())
+        }
+        Op::OmapSet {
+            c,
+            o,
+            header,
+            pairs,
+        } => {
             put_head(out, OMAP_SET, c, o)?;
             put_header(out, header)?;
-            put_pairs(out, pairs.slice())
+            put_pairs(out, pairs.slice())?;
+            Ok(())
         }
         Op::OmapRemove { c, o, keys } => {
             put_head(out, OMAP_REMOVE, c, o)?;
-            put_blobs(out, keys.slice())
+            put_blobs(out, keys.slice())?;
+            Ok(())
         }
         Op::OmapRange { c, o, from, to } => {
             put_head(out, OMAP_RANGE, c, o)?;
-            put_blob(out, from)?;
-            put_blob(out, to)
+            put_two_blobs(out, from, to)?;
+            Ok(())
         }
     }
 }
