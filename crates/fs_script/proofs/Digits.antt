@@ -9,9 +9,9 @@ abbrev pub after_bytes : List ℕ → Option (List ℕ) → Option (List ℕ)
 after_bytes bytes None = None
 after_bytes bytes (Some more) = Some (bytes ++ more)
 
-pub after-nothing : (r : Option (List ℕ)) → after_bytes [] r ≡ r
-after-nothing None = refl
-after-nothing (Some bytes) = refl
+pub before-any : (r : Option (List ℕ)) → r ≡ after_bytes [] r
+before-any None = refl
+before-any (Some bytes) = refl
 
 after-byte : (bytes : List ℕ) (byte : ℕ) (r : Option (List ℕ)) → after_bytes bytes (before_bytes (Some byte) r) ≡ after_bytes (bytes ++ byte ∷ []) r
 after-byte bytes byte None = refl
@@ -43,3 +43,5 @@ pub odd-digit : (all bytes rest : List ℕ) (digit : ℕ) → bytes_of_digits al
     → bytes_of_digits all ≡ None
 unfolding bytes_of_digits
 odd-digit all bytes rest digit so_far is = so_far ∙ ap (λ (l : List ℕ). after_bytes bytes (bytes_of_digits l)) is
+
+pub ruleset digits = (before-any, one-byte, bad-pair, all-bytes, odd-digit)
