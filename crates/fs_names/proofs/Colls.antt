@@ -1,13 +1,12 @@
 -- The parts of a collection's text.
-use Rattle.std.proofs.Common.{◌≡◌, ℕ, ◌<◌, Bool, true, false, List, [], ◌++◌, codes, length, Option, Some, None, refl, sym, ap, ◌∙◌}
+use Rattle.std.proofs.Common.{◌≡◌, ℕ, true, false, List, [], ◌++◌, codes, length, Option, Some, None, refl, sym, ap, ◌∙◌}
 use Rattle.std.proofs.lemmas.List.{append_assoc}
 use Rattle.std.specs.Fmt.{digits}
 use Rattle.std.specs.List.{position_or_len, before_first, after_first}
-use Rattle.fs_names.specs.declared.coll.Coll.{Coll}
-use Rattle.fs_names.specs.declared.coll.Coll.TheVariants.{Meta, Pg}
+use Rattle.fs_names.specs.declared.coll.Coll.TheVariants.{Pg}
 use Rattle.fs_names.specs.Numbers.{number_of}
 use Rattle.fs_names.specs.Text.{coll_text}
-use Rattle.fs_names.specs.Reading.{coll_of, pg_of, pg_from, seed_of, kind_of, is_dot, is_underscore}
+use Rattle.fs_names.specs.Reading.{pg_of, pg_from, seed_of, kind_of, is_dot, is_underscore}
 use Rattle.fs_names.proofs.Splits.{after_none}
 
 pub pg_from_no_kind : (pool seed : Option ℕ) → pg_from pool seed None ≡ None

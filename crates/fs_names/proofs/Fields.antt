@@ -1,10 +1,8 @@
 -- The fields of an object's text.
-use Rattle.std.proofs.Common.{◌≡◌, ℕ, ◌<◌, Bool, List, [], ◌∷◌, length, Result, Err, refl, sym, ap, ◌∙◌, arith}
+use Rattle.std.proofs.Common.{◌≡◌, ℕ, ◌<◌, List, [], ◌∷◌, length, Err, refl, sym, ap, ◌∙◌, arith}
 use Rattle.std.proofs.lemmas.List.Splits.{slice_split_first, length-slice_split}
 use Rattle.std.specs.List.{position_or_len, before_first, after_first, slice_split}
-use Rattle.fs_names.specs.declared.fault.NameFault.{NameFault}
 use Rattle.fs_names.specs.declared.fault.NameFault.TheVariants.{BadField}
-use Rattle.fs_names.specs.declared.oid.Oid.{Oid}
 use Rattle.fs_names.specs.Reading.{is_underscore, oid_of, oid_of_fields, oid_of_six}
 use Rattle.fs_names.proofs.Splits.{split_none}
 

@@ -10,7 +10,6 @@ use Rattle.std.specs.Fmt.{digits, digits_onto, digit_glyph}
 use Rattle.std.specs.Ordering.{ordering_then, is_ne}
 use Rattle.std.specs.declared.cmp.Ordering.{Ordering}
 use Rattle.std.specs.declared.cmp.Ordering.TheVariants.{Less, Equal, Greater}
-use Rattle.fs_names.specs.declared.fault.NameFault.{NameFault}
 use Rattle.fs_names.specs.declared.fault.NameFault.TheVariants.{BadEscape}
 use Rattle.fs_names.specs.Text.{spelled, field_text}
 use Rattle.fs_names.specs.Units.{unit_byte, after, field_of, counted}

@@ -1,13 +1,12 @@
 -- A comparison of names, part by part.
-use Rattle.std.proofs.Common.{◌≡◌, ℕ, Bool, true, false, Option, None, Some, List, [], ◌∷◌, ◌++◌, ◌≢◌, arith, refl, sym, ap, ◌∙◌}
+use Rattle.std.proofs.Common.{◌≡◌, ℕ, Bool, true, false, List, [], ◌∷◌, ◌++◌, ◌≢◌, arith, refl, sym, ap, ◌∙◌}
 use Rattle.std.proofs.lemmas.Bool.Decides.{nat_tests}
 use Rattle.std.specs.declared.cmp.Ordering.{Ordering}
 use Rattle.std.specs.declared.cmp.Ordering.TheVariants.{Less, Equal, Greater}
 use Rattle.std.specs.Ordering.{nat_cmp, bool_cmp, ordering_then}
 use Rattle.std.specs.Cmp.Lexicographic.{slice_cmp}
-use Rattle.fs_names.specs.declared.coll.Coll.{Coll}
-use Rattle.fs_names.specs.declared.coll.Coll.TheVariants.{Meta, Pg}
-use Rattle.fs_names.specs.Text.{digit_at, hash_digits, spelled, field_text}
+use Rattle.fs_names.specs.declared.coll.Coll.TheVariants.{Pg}
+use Rattle.fs_names.specs.Text.{digit_at, hash_digits}
 use Rattle.fs_names.specs.Order.{coll_field_cmp, temp_key}
 
 then_Equal : (r : Ordering) → ordering_then r Equal ≡ r

@@ -1,17 +1,16 @@
 -- Names, keys and namespaces are read as they are spelled, and what is read was spelled so.
-use Rattle.std.proofs.Common.{◌≡◌, ◌≢◌, ◌⊎◌, inl, inr, ℕ, zero, suc, ◌+◌, ◌-◌, ◌<◌, ◌≤◌, Bool, true, false, cond, ltb, ◌||◌, nat_eq, codes, List, [], ◌∷◌, ◌++◌, length, get_or, drop, Option, Some, None, Result, Ok, Err, refl, sym, ap, subst, ◌∙◌, arith, append_assoc, length-append}
-use Rattle.std.proofs.lemmas.Bool.{cases_eq, cond-true, cond-false, false_from_ne_true, both_ways, ltb-true}
+use Rattle.std.proofs.Common.{◌≡◌, ◌≢◌, ℕ, zero, suc, ◌+◌, ◌-◌, ◌<◌, Bool, true, false, cond, ltb, ◌||◌, codes, List, [], ◌∷◌, ◌++◌, length, drop, Option, Some, None, Result, Ok, Err, refl, sym, ap, subst, ◌∙◌, arith, append_assoc, length-append}
+use Rattle.std.proofs.lemmas.Bool.{cond-true, cond-false, false_from_ne_true, both_ways, ltb-true}
 use Rattle.std.proofs.lemmas.Bool.Decides.{nat_tests}
-use Rattle.std.proofs.lemmas.List.{append-nil, drop_at}
 use Rattle.std.proofs.lemmas.List.Elements.{All-nil, All-weaker, All-cons, All-head, All-tail, All-append, All-drop}
 use Rattle.std.proofs.lemmas.List.Sums.{AllPass-from_list_all}
-use Rattle.std.specs.Fmt.{digit_glyph}
 use Rattle.std.specs.List.{All, list_all}
 use Rattle.std.specs.Option.{option_map_or}
 use Rattle.fs_names.specs.declared.fault.NameFault.{NameFault}
 use Rattle.fs_names.specs.declared.fault.NameFault.TheVariants.{BadEscape}
 use Rattle.fs_names.specs.Text.{spelled, field_text, name_text}
-use Rattle.fs_names.specs.Units.{begins, unit_byte, likely_byte, after, units_of, field_of, name_of}
+use Rattle.fs_names.specs.Likely.{likely_byte}
+use Rattle.fs_names.specs.Units.{begins, unit_byte, after, units_of, field_of, name_of}
 use Rattle.fs_names.proofs.UnitLaws.{begins_from, begins_is, likely_spelled, unit_byte_gives, unit_byte_is}
 
 abbrev pub IsSmall : List ℕ → Type 0

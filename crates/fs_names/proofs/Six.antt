@@ -1,10 +1,10 @@
 -- What six fields name, fault by fault.
-use Rattle.std.proofs.Common.{◌≡◌, ◌≢◌, ℕ, ◌+◌, ◌≤◌, Bool, true, false, cond, ltb, length, List, [], ◌∷◌, Option, Some, None, Result, Ok, Err, IsOk, refl, sym, ap, subst, ◌∙◌}
-use Rattle.std.proofs.lemmas.Bool.{cond-true, cond-false, ltb-false, le-ltb, lt-ltb}
+use Rattle.std.proofs.Common.{◌≡◌, ℕ, ◌+◌, ◌≤◌, Bool, true, false, cond, ltb, length, List, Option, Some, None, Result, Ok, Err, IsOk, refl, sym, ap, subst, ◌∙◌}
+use Rattle.std.proofs.lemmas.Bool.{cond-false, ltb-false, le-ltb}
 use Rattle.std.specs.Option.{ok_or}
 use Rattle.std.specs.Result.{IsOkAnd}
 use Rattle.fs_names.specs.declared.fault.NameFault.{NameFault}
-use Rattle.fs_names.specs.declared.fault.NameFault.TheVariants.{BadField, BadEscape, TooLong, Memory}
+use Rattle.fs_names.specs.declared.fault.NameFault.TheVariants.{BadField, TooLong}
 use Rattle.fs_names.specs.declared.oid.Snap.{Snap}
 use Rattle.fs_names.specs.declared.oid.Oid.{Oid}
 use Rattle.fs_names.specs.Reading.{◌>>=◌, within_limit, names_of, oid_of_six, snap_of, hash_of, pool_of}

@@ -1,25 +1,25 @@
 -- The order of texts, by the first units that differ.
-use Rattle.std.proofs.Common.{◌≡◌, ◌≢◌, ◌⊎◌, inl, inr, ℕ, zero, suc, ◌+◌, ◌<◌, ◌≤◌, Bool, true, false, cond, nat_eq, codes, List, [], ◌∷◌, ◌++◌, length, get_or, take, drop, slice_get, Option, Some, None, refl, sym, ap, subst, ◌∙◌, arith, append_assoc}
-use Rattle.std.proofs.lemmas.Bool.{cases_eq, cond-true, cond-false}
+use Rattle.std.proofs.Common.{◌≡◌, ◌≢◌, ◌⊎◌, inl, inr, ℕ, zero, suc, ◌<◌, ◌≤◌, Bool, true, false, cond, codes, List, [], ◌∷◌, ◌++◌, length, get_or, take, drop, slice_get, Some, None, refl, sym, ap, subst, ◌∙◌, arith, append_assoc}
+use Rattle.std.proofs.lemmas.Bool.{cases_eq}
 use Rattle.std.proofs.lemmas.Bool.Decides.{nat_tests}
 use Rattle.std.proofs.lemmas.List.{append-nil}
 use Rattle.std.proofs.lemmas.List.Elements.{All-head, All-tail}
 use Rattle.std.specs.Fmt.{digit_glyph}
 use Rattle.std.specs.Cmp.Lexicographic.{slice_cmp}
-use Rattle.std.specs.FinMap.{IsAntisymmetric, nat_cmp-IsAntisymmetric, slice_cmp-IsAntisymmetric}
+use Rattle.std.specs.FinMap.{nat_cmp-IsAntisymmetric, slice_cmp-IsAntisymmetric}
 use Rattle.std.specs.List.{AllPass}
 use Rattle.std.specs.Option.{option_map_or}
 use Rattle.std.specs.Ordering.{nat_cmp, ordering_then}
-use Rattle.std.specs.declared.cmp.Ordering.{Ordering}
-use Rattle.std.specs.declared.cmp.Ordering.TheVariants.{Less, Equal, Greater}
-use Rattle.fs_names.specs.Order.{ended_cmp, ends_cmp, unit_at, name_unit, oid_cmp, oid_key}
+use Rattle.std.specs.declared.cmp.Ordering.TheVariants.{Equal}
+use Rattle.fs_names.specs.Order.{ended_cmp, ends_cmp, unit_at, name_unit}
 use Rattle.fs_names.specs.Reading.{OidFits}
-use Rattle.fs_names.specs.Text.{spelled, field_text, name_text, snap_text, hash_text, pool_text, hash_digits, digit_at, oid_text}
-use Rattle.fs_names.specs.Units.{begins, unit_byte, likely_byte}
+use Rattle.fs_names.specs.Text.{spelled, field_text, name_text, snap_text, hash_text, pool_text, hash_digits, oid_text}
+use Rattle.fs_names.specs.Likely.{likely_byte}
+use Rattle.fs_names.specs.Units.{begins, unit_byte}
 use Rattle.fs_names.specs.declared.oid.Oid.{Oid}
-use Rattle.fs_names.proofs.Parts.{Lacks, cmp_pieces, differs_first, then_assoc}
+use Rattle.fs_names.proofs.Parts.{Lacks, cmp_pieces, differs_first}
 use Rattle.fs_names.proofs.ReadLaws.{IsSmall, spelled_some}
-use Rattle.fs_names.proofs.Inner.{is_inner, spelled-inner, field_text-inner, name_text-inner, snap_text-inner, hash_text-inner, snap_field}
+use Rattle.fs_names.proofs.Inner.{is_inner, spelled-inner, field_text-inner, name_text-inner, snap_text-inner, hash_text-inner}
 use Rattle.fs_names.proofs.UnitLaws.{begins_is, likely_spelled, unit_byte_is}
 
 -- equal fronts don't count

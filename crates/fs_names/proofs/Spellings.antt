@@ -1,22 +1,18 @@
 -- The texts of snaps, pools and hashes, as they are read.
-use Rattle.std.proofs.Common.{◌≡◌, ◌≢◌, ℕ, ◌^◌, ◌<◌, ◌≤◌, ◌==◌, ◌&&◌, Bool, true, false, not, cond, codes, List, [], ◌∷◌, ◌++◌, length, get_or, Option, Some, None, IfSome, refl, sym, ap, subst, ◌∙◌, arith}
-use Rattle.std.proofs.lemmas.Bool.{both_ways, cond-true, cond-false, false_from_ne_true}
-use Rattle.std.proofs.lemmas.Bool.Decides.{nat_tests}
-use Rattle.std.proofs.lemmas.List.Elements.{All-get_or, All-weaker}
-use Rattle.std.proofs.lemmas.List.Sums.{AllPass-from_list_all}
+use Rattle.std.proofs.Common.{◌≡◌, ℕ, ◌^◌, ◌<◌, Bool, true, false, cond, codes, List, ◌∷◌, Option, Some, None, IfSome, refl, sym, ap, subst, ◌∙◌, arith}
+use Rattle.std.proofs.lemmas.Bool.{both_ways, cond-false, false_from_ne_true}
+use Rattle.std.proofs.lemmas.List.Elements.{All-get_or}
 use Rattle.std.proofs.lemmas.Slice.Eq.{bytes_eq-Decides}
-use Rattle.std.specs.Char.{is_ascii_graphic}
-use Rattle.std.specs.Fmt.{digits, digit_glyph}
-use Rattle.std.specs.List.{All, AllPass}
+use Rattle.std.specs.Fmt.{digits}
+use Rattle.std.specs.List.{AllPass}
 use Rattle.std.specs.Option.{option_map}
 use Rattle.std.specs.Str.{bytes_eq}
 use Rattle.fs_names.specs.declared.oid.Snap.{Snap}
 use Rattle.fs_names.specs.declared.oid.Snap.TheVariants.{Head, Dir, Id}
 use Rattle.fs_names.specs.Numbers.{number_of, is_lower_digit}
 use Rattle.fs_names.specs.Reading.{SnapFits, snap_of, pool_of}
-use Rattle.fs_names.specs.Text.{snap_text, pool_text, hash_text}
+use Rattle.fs_names.specs.Text.{snap_text, pool_text}
 use Rattle.fs_names.proofs.Digits.{digits-lower, number_gives, number_reads}
-use Rattle.fs_names.proofs.Inner.{is_inner}
 
 -- no digits are a word that begins with another letter
 not_word : (n b : ℕ) (bs : List ℕ) → is_lower_digit 16 b ≡ false → bytes_eq (digits 16 false n) (b ∷ bs) ≡ false

@@ -1,5 +1,5 @@
 -- The units of a text: each byte has one spelling, and no spelling begins another.
-use Rattle.std.proofs.Common.{◌≡◌, ◌≢◌, ◌⊎◌, inl, inr, ℕ, zero, suc, ◌+◌, ◌-◌, ◌*◌, ◌/◌, ◌%◌, ◌<◌, ◌≤◌, Bool, true, false, cond, eqb, ltb, nat_eq, List, [], ◌∷◌, ◌++◌, length, drop, Option, Some, None, refl, sym, ap, subst, ◌∙◌, arith}
+use Rattle.std.proofs.Common.{◌≡◌, ◌≢◌, inl, inr, ℕ, zero, suc, ◌+◌, ◌*◌, ◌/◌, ◌%◌, ◌<◌, ◌≤◌, Bool, true, false, cond, List, [], ◌∷◌, ◌++◌, length, drop, Some, None, refl, sym, ap, subst, ◌∙◌, arith}
 use Rattle.std.proofs.Math.Nat.{mod-lt, div-lt_iff_lt-mul}
 use Rattle.std.proofs.lemmas.Nat.{div-add-mod'}
 use Rattle.std.proofs.lemmas.Bool.{cases_eq, ne_eqb, lt-ltb, cond-true, cond-false}
@@ -10,7 +10,8 @@ use Rattle.std.specs.Fmt.{digit_glyph}
 use Rattle.std.specs.List.{find, range_with_len}
 use Rattle.std.specs.Option.{option_map, option_and_then}
 use Rattle.fs_names.specs.Text.{spelled}
-use Rattle.fs_names.specs.Units.{begins, unit_byte, likely_byte, byte_of_digits, value_of_digit}
+use Rattle.fs_names.specs.Likely.{likely_byte, value_of_digit}
+use Rattle.fs_names.specs.Units.{begins, unit_byte}
 use Rattle.fs_names.proofs.Digits.{glyph_value, none_from}
 
 -- how a byte is spelled

@@ -1,5 +1,5 @@
 -- How object names and collections are stored in the value of a model.
-use Rattle.std.specs.Prelude.{◌≡◌, ℕ, Bool, true, false, List, [], ◌∷◌, Option, None, Some, refl}
+use Rattle.std.specs.Prelude.{◌≡◌, ℕ, Bool, List, [], ◌∷◌, Option, None, Some, refl}
 use Rattle.std.specs.Coded.{Coded, code_by, coded×, coded_ℕ, coded_bool, coded_list, coded_option}
 use Rattle.fs_names.specs.declared.oid.Snap.{Snap}
 use Rattle.fs_names.specs.declared.oid.Snap.TheVariants.{Head, Dir, Id}

@@ -1,5 +1,5 @@
 -- The texts of object names and of collections.
-use Rattle.std.specs.Prelude.{ℕ, ◌+◌, ◌/◌, ◌%◌, ◌^◌, Bool, true, false, cond, ◌||◌, eqb, ltb, nat_eq, List, [], ◌∷◌, ◌++◌, map, take, drop, Option, None, Some, codes}
+use Rattle.std.specs.Prelude.{ℕ, ◌/◌, ◌%◌, ◌^◌, true, false, cond, ◌||◌, eqb, ltb, nat_eq, List, [], ◌∷◌, ◌++◌, map, drop, Option, None, Some, codes}
 use Rattle.std.specs.List.{flat_map, starts_with}
 use Rattle.std.specs.Fmt.{digits, digit_glyph}
 use Rattle.fs_names.specs.declared.oid.Snap.{Snap}

@@ -1,8 +1,7 @@
 -- The text of a name, a key or a namespace, read unit by unit.
-use Rattle.std.specs.Prelude.{ℕ, zero, suc, ◌+◌, ◌-◌, ◌*◌, Bool, ◌||◌, ◌==◌, if◌then◌else◌, nat_eq, nat_lt, List, [], ◌∷◌, ◌++◌, length, drop, codes, Option, Some, None, Result, Ok, Err}
-use Rattle.std.specs.Char.{digit_value}
+use Rattle.std.specs.Prelude.{ℕ, zero, suc, ◌+◌, ◌-◌, Bool, ◌||◌, if◌then◌else◌, nat_eq, List, [], ◌∷◌, ◌++◌, length, drop, codes, Option, Result, Ok, Err}
 use Rattle.std.specs.List.{find, range_with_len, starts_with}
-use Rattle.std.specs.Option.{option_map, option_map_or, option_and_then}
+use Rattle.std.specs.Option.{option_map_or}
 use Rattle.fs_names.specs.declared.fault.NameFault.{NameFault}
 use Rattle.fs_names.specs.declared.fault.NameFault.TheVariants.{BadEscape}
 use Rattle.fs_names.specs.Text.{spelled}
@@ -42,23 +41,3 @@ name_of text =
 abbrev pub counted : Result (List ℕ) NameFault → Result ℕ NameFault
 counted (Ok bytes) = Ok (length bytes)
 counted (Err fault) = Err fault
-
--- The only byte whose spelling may begin a text: it is told by a letter, by two digits or by itself.
-abbrev pub value_of_digit : ℕ → Option ℕ
-value_of_digit d = if nat_lt (digit_value d) 16 then Some (digit_value d) else None
-
-abbrev pub byte_of_digits : List ℕ → Option ℕ
-byte_of_digits (high ∷ low ∷ rest) = option_and_then (λ h. option_map (λ l. h * 16 + l) (value_of_digit low)) (value_of_digit high)
-byte_of_digits rest = None
-
-abbrev pub byte_of_letter : ℕ → Option ℕ
-byte_of_letter letter =
-    if letter == 92 then Some 92 else (if letter == 115 then Some 47 else (if letter == 117 then Some 95 else (if letter == 110 then Some 0 else None)))
-
-abbrev pub byte_of_escape : List ℕ → Option ℕ
-byte_of_escape [] = None
-byte_of_escape (letter ∷ rest) = if letter == 120 then byte_of_digits rest else byte_of_letter letter
-
-abbrev pub likely_byte : List ℕ → Option ℕ
-likely_byte [] = None
-likely_byte (first ∷ rest) = if first == 92 then byte_of_escape rest else Some first

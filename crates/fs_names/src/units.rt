@@ -1,7 +1,8 @@
 //! The text of a name, a key or a namespace, read unit by unit: first counted and judged, then read.
 ghost use Rattle.std.specs.Prelude.{◌≡◌, ◌+◌, ◌≤◌, ◌<◌, ◌^◌, ◌++◌, ◌≢◌, ℕ, List, Ok, Err, Some, length, OnOk, IfOk, IfNone, IfSome};
 ghost use Rattle.fs_names.specs.Text.{spelled};
-ghost use Rattle.fs_names.specs.Units.{byte_of_digits, byte_of_letter, byte_of_escape, likely_byte, value_of_digit, unit_byte, field_of, name_of, counted};
+ghost use Rattle.fs_names.specs.Likely.{byte_of_digits, byte_of_letter, byte_of_escape, likely_byte, value_of_digit};
+ghost use Rattle.fs_names.specs.Units.{unit_byte, field_of, name_of, counted};
 
 use crate::NameFault;
 use crate::unit::Unit;

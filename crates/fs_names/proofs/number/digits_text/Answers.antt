@@ -1,4 +1,4 @@
-use Rattle.std.proofs.Common.{◌≡◌, Bor, List, ℕ, Result, Ok, Err, IfNone, MatchResult, sym, ◌∙◌, subst}
+use Rattle.std.proofs.Common.{◌≡◌, Bor, List, ℕ, Result, Ok, Err, IfNone, MatchResult, sym, ◌∙◌}
 use Rattle.std.specs.Result.{result_ok}
 use Rattle.std.specs.Str.{IsUtf8}
 use Rattle.fs_names.proofs.Digits.{number_of-leading_zero, number_of-other, lower-IsUtf8}

@@ -1,6 +1,5 @@
-use Rattle.std.proofs.Common.{◌∙◌, ap, subst, sym}
+use Rattle.std.proofs.Common.{◌∙◌, subst}
 use Rattle.std.specs.Str.Parse.{ParsesUnsigned}
-use Rattle.fs_names.specs.Numbers.{number_of}
 use Rattle.fs_names.proofs.Digits.{number_of-parsed}
 use Rattle.fs_names.proofs.number.number.Goals as goal
 

@@ -1,4 +1,4 @@
-use Rattle.std.proofs.Common.{◌≡◌, Bor, List, ℕ, Option, Some, None, MatchOption, true, false, sym, ◌∙◌}
+use Rattle.std.proofs.Common.{◌≡◌, Option, Some, None, MatchOption, true, false, sym, ◌∙◌}
 use Rattle.std.specs.Option.{is_some}
 use Rattle.fs_names.proofs.Fields.{one_field, two_fields, three_fields, four_fields, five_fields, six_fields, more_fields}
 use Rattle.fs_names.proofs.oid_reading.split_fields.Goals as goal

@@ -1,5 +1,5 @@
 use Rattle.std.proofs.Common.{◌≡◌, List, ◌∷◌, [], ◌++◌, ℕ, sym, ap, ◌∙◌, append_assoc}
-use Rattle.fs_names.specs.Text.{oid_text, name_text, field_text, snap_text, hash_text, pool_text}
+use Rattle.fs_names.specs.Text.{name_text, field_text, snap_text, hash_text, pool_text}
 use Rattle.fs_names.proofs.OidLaw.{text_joined}
 use Rattle.fs_names.proofs.oid_text.encode_oid.Goals as goal
 

@@ -1,5 +1,4 @@
-use Rattle.std.proofs.Common.{◌≡◌, ◌++◌, sym, ◌∙◌, ap, arith}
-use Rattle.fs_names.specs.Text.{spelled}
+use Rattle.std.proofs.Common.{◌++◌, sym, ◌∙◌, ap, arith}
 use Rattle.fs_names.proofs.Loops.{not_stripped, stripped}
 use Rattle.fs_names.proofs.UnitLaws.{unlikely, unlike, unit_byte_at}
 use Rattle.fs_names.proofs.units.next_unit.Goals as goal

@@ -1,7 +1,7 @@
-use Rattle.std.proofs.Common.{◌≡◌, ◌∷◌, [], ◌++◌, codes, drop, sym, ap, ◌∙◌, append_assoc}
+use Rattle.std.proofs.Common.{◌++◌, codes, sym, ap, ◌∙◌, append_assoc}
 use Rattle.fs_names.specs.Units.{field_of}
 use Rattle.fs_names.proofs.Loops.{on_ok, take_rest}
-use Rattle.fs_names.proofs.ReadLaws.{dir_read, dot_read, other_read}
+use Rattle.fs_names.proofs.ReadLaws.{dir_read, dot_read}
 use Rattle.fs_names.proofs.units.push_name.Goals as goal
 
 pub returns-then-starts_with : goal.returns-then-starts_with

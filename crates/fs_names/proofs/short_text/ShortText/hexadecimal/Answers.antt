@@ -1,4 +1,4 @@
-use Rattle.std.proofs.Common.{sym, ap, refl, arith, ◌≡◌, ◌∷◌, [], ◌<◌, ◌^◌}
+use Rattle.std.proofs.Common.{ap, refl, arith, ◌∷◌, []}
 use Rattle.fs_names.proofs.Loops.{digits_begun, digits_grow}
 use Rattle.fs_names.proofs.short_text.ShortText.hexadecimal.Goals as goal
 
