@@ -23,4 +23,4 @@ pub use fault::{ScriptFault, ScriptWhy};
 pub use parse::{SCRIPT_LIMIT, parse_script};
 pub use print::{print_answer, print_refusal};
 pub use script::Script;
-pub use statement::{Line, Statement};
+pub use statement::{Cursor, Line, Statement};

@@ -1,9 +1,9 @@
 use crate::{
-    Answer, Line, ScriptFault, ScriptWhy, Statement, parse_script, print_answer, print_refusal,
+    Answer, Cursor, Line, ScriptFault, ScriptWhy, Statement, parse_script, print_answer,
+    print_refusal,
 };
 use fs_model::{Blob, CollNames, OidList, Op, Pair, PairList, Why};
 use fs_names::{Coll, decode_oid};
-use hash_order::Cursor;
 use std::alloc::Global;
 use std::test::Fail;
 

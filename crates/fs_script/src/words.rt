@@ -64,8 +64,10 @@ pub fn one(rest: Option<&[u8]>) -> Result<&[u8], LineFault>
     ensures { GivesOne (pieces_left 32 rest.entry) result }
 {
     let (word, rest) = first(rest)?;
-    none(rest)?;
-    Ok(word)
+    match rest {
+        None => Ok(word),
+        Some(_) => Err(LineFault::Bad(ScriptWhy::WrongCount)),
+    }
 }
 
 pub fn two(rest: Option<&[u8]>) -> Result<(&[u8], &[u8]), LineFault>

@@ -3,4 +3,4 @@ use Rattle.fs_script.specs.Printed.{pairs_text}
 use Rattle.fs_script.proofs.print.push_pairs.Given as goal
 
 abbrev pub invariant-loop-pair : goal.invariant-loop-pair
-invariant-loop-pair l = l.text.items ≡ l.initial.text.items ++ pairs_text l.word.now (take l.pair-index l.pairs)
+invariant-loop-pair l = l.text.items ≡ l.initial.text.items ++ pairs_text l.word (take l.pair-index l.pairs)
