@@ -1,7 +1,7 @@
 -- The fields so far, and those of the words that are left.
 use Rattle.std.proofs.Common.{◌≡◌, ℕ, List, [], ◌∷◌, ◌++◌, refl, sym, ◌∙◌, ap, append_assoc}
 use mathlib.Core.List.{append-nil}
-use Rattle.std.specs.Prelude.{Option, None, Some, Result, Ok, Err}
+use Rattle.std.specs.Prelude.{Option, None, Some, Ok, Err}
 use Rattle.std.specs.Borrow.{Bor}
 use Rattle.fs_script.specs.declared.fault.LineFault.{LineFault}
 use Rattle.fs_script.specs.declared.fault.LineFault.TheVariants.{Bad, Memory}

@@ -6,7 +6,6 @@ use Rattle.std.specs.List.{slice_split}
 use Rattle.std.specs.Borrow.{Bor}
 use Rattle.fs_script.specs.declared.statement.Line.{Line}
 use Rattle.fs_script.specs.declared.statement.Statement.{Statement}
-use Rattle.fs_script.specs.declared.fault.LineFault.{LineFault}
 use Rattle.fs_script.specs.Reading.{Reading}
 use Rattle.fs_script.specs.Words.{pieces_left}
 use Rattle.fs_script.specs.Grammar.{Refused, TellsLine, line_said, line_if, lines_said, opened_after, with_line, before_lines, ended}

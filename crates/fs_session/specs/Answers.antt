@@ -12,8 +12,8 @@ use Rattle.fs_model.specs.Colls.{CollSet, colls_of}
 use Rattle.fs_model.specs.Rows.{fold_ops}
 use Rattle.fs_model.specs.Check.{txn_refusal, colls_after}
 use Rattle.fs_model.specs.Listing.{Page, listing}
-use Rattle.hash_order.specs.declared.cursor.Cursor.{Cursor}
-use Rattle.hash_order.specs.declared.cursor.Cursor.TheVariants.{Start, At}
+use Rattle.fs_script.specs.declared.statement.Cursor.{Cursor}
+use Rattle.fs_script.specs.declared.statement.Cursor.TheVariants.{Start, At}
 use Rattle.fs_script.specs.declared.statement.Statement.{Statement}
 use Rattle.fs_script.specs.declared.statement.Statement.TheVariants.{Do, Begin, End, Drain, Read, Stat, Attrs, Omap, List as ListIn, Colls, Acked}
 use Rattle.fs_script.specs.declared.statement.Line.{Line}

@@ -1,6 +1,6 @@
 use Rattle.std.proofs.Common.{refl}
 use Rattle.fs_script.specs.Fields.{key_fields}
-use Rattle.fs_script.proofs.FieldLists.{one-field, bad-field, all-fields}
+use Rattle.fs_script.proofs.FieldLists.{one-field, all-fields}
 use Rattle.fs_script.proofs.field.keys.Goals as goal
 
 pub loop-rest-preserved : goal.loop-rest-preserved

@@ -1,6 +1,6 @@
 use Rattle.std.proofs.Common.{refl}
 use Rattle.fs_script.specs.Fields.{pair_fields}
-use Rattle.fs_script.proofs.FieldLists.{one-field, bad-field, all-fields}
+use Rattle.fs_script.proofs.FieldLists.{one-field, all-fields}
 use Rattle.fs_script.proofs.field.pairs.Goals as goal
 
 pub loop-rest-preserved : goal.loop-rest-preserved
