@@ -1,12 +1,11 @@
 -- The lines of a script so far, and those that are left.
-use Rattle.std.proofs.Common.{◌≡◌, ℕ, ◌+◌, ◌<◌, ◌≤◌, List, [], ◌∷◌, ◌++◌, length, refl, sym, ◌∙◌, ap, subst, arith, append_assoc}
+use Rattle.std.proofs.Common.{◌≡◌, ℕ, ◌+◌, ◌<◌, ◌≤◌, Bool, List, [], ◌∷◌, ◌++◌, length, refl, sym, ◌∙◌, ap, subst, arith, append_assoc}
 use mathlib.Core.List.{append-nil}
 use Rattle.std.specs.Prelude.{Result, Ok, Err, Option, None, Some, ◌==◌, IfSome, is_some}
 use Rattle.std.specs.List.{slice_split}
 use Rattle.std.specs.Borrow.{Bor}
 use Rattle.fs_script.specs.declared.statement.Line.{Line}
 use Rattle.fs_script.specs.declared.statement.Statement.{Statement}
-use Rattle.fs_script.specs.declared.fault.LineFault.{LineFault}
 use Rattle.fs_script.specs.Reading.{Reading}
 use Rattle.fs_script.specs.Words.{pieces_left}
 use Rattle.fs_script.specs.Grammar.{Refused, TellsLine, line_said, line_if, lines_said, opened_after, with_line, before_lines, ended}
@@ -21,9 +20,9 @@ pub record SoFar (text : List ℕ) (lines : List Line) (number : ℕ) (opened : 
   pub said : lines_said 1 None (slice_split (λ b. b == 10) text) ≡ after_lines lines (lines_said number opened (pieces_left 10 rest))
   pub counted : number + left_of rest ≤ length text + 2
 
-pub after_none : (r : Result (List Line) Refused) → after_lines [] r ≡ r
-after_none (Ok lines) = refl
-after_none (Err refused) = refl
+pub before-any : (r : Result (List Line) Refused) → r ≡ after_lines [] r
+before-any (Ok lines) = refl
+before-any (Err refused) = refl
 
 -- behind the last line
 pub after_ended : (lines : List Line) (opened : Option ℕ) → after_lines lines (ended [] opened) ≡ ended lines opened
@@ -45,15 +44,16 @@ tells-line number opened said (Some statement) h lines rest =
     ∙ after_one_more lines (record { number = number; statement = statement }) (rest (opened_after number opened (Some statement)))
 
 -- one line more was read
-pub one-more : (text : List ℕ) (lines new : List Line) (number : ℕ) (opened after : Option ℕ) (old : Option (Bor (List ℕ))) (here : Bor (List ℕ)) (first : List ℕ) (rest : Option (Bor (List ℕ))) (o : Option Statement)
+pub one-more : (text : List ℕ) (lines new : List Line) (number : ℕ) (opened after : Option ℕ) (old : Option (Bor (List ℕ))) (here : Bor (List ℕ)) (first : List ℕ) (rest : Option (Bor (List ℕ))) (inside : Bool) (o : Option Statement)
     → SoFar text lines number opened old → old ≡ Some here → slice_split (λ b. b == 10) here.now ≡ first ∷ pieces_left 10 rest
-    → IfSome rest (λ r. length r.now < length here.now) → TellsLine (line_said (is_some opened) first) (Ok o) → after ≡ opened_after number opened o
+    → IfSome rest (λ r. length r.now < length here.now) → inside ≡ is_some opened
+    → TellsLine (line_said inside first) (Ok o) → after ≡ opened_after number opened o
     → new ≡ lines ++ line_if number o → SoFar text new (number + 1) after rest
-one-more text lines new number opened after old here first rest o s is cut short told leaves e = record {
+one-more text lines new number opened after old here first rest inside o s is cut short within told leaves e = record {
   said =
       s.said ∙ ap (λ (r : Option (Bor (List ℕ))). after_lines lines (lines_said number opened (pieces_left 10 r))) is
       ∙ ap (λ (ps : List (List ℕ)). after_lines lines (lines_said number opened ps)) cut
-      ∙ tells-line number opened (line_said (is_some opened) first) o told lines (λ after. lines_said (number + 1) after (pieces_left 10 rest))
+      ∙ tells-line number opened (line_said (is_some opened) first) o (subst (λ (b : Bool). TellsLine (line_said b first) (Ok o)) within told) lines (λ after. lines_said (number + 1) after (pieces_left 10 rest))
       ∙ ap (λ (a : Option ℕ). after_lines (lines ++ line_if number o) (lines_said (number + 1) a (pieces_left 10 rest))) (sym leaves)
       ∙ ap (λ (l : List Line). after_lines l (lines_said (number + 1) after (pieces_left 10 rest))) (sym e);
   counted =

@@ -83,8 +83,8 @@ pair_fields [] = Ok []
 pair_fields (word ∷ []) = Err WrongCount
 pair_fields (first ∷ second ∷ words) = pair_field first second >>= λ pair. before_fields pair (pair_fields words)
 
--- what a call answers of the first pair of a text, but for want of memory
-abbrev pub TellsPair : List ℕ → Result (Pair × Option (Bor (List ℕ))) LineFault → Type 0
-TellsPair text (Ok w) = pair_fields (words_of text) ≡ before_fields w.0 (pair_fields (pieces_left 32 w.1))
-TellsPair text (Err (Bad why)) = pair_fields (words_of text) ≡ Err why
-TellsPair text (Err Memory) = Unit {0}
+-- what a call answers of the first field of a text, but for want of memory
+abbrev pub TellsFirst : {A : Type 0} → (List (List ℕ) → Reading (List A)) → List ℕ → Result (A × Option (Bor (List ℕ))) LineFault → Type 0
+TellsFirst fields text (Ok w) = fields (words_of text) ≡ before_fields w.0 (fields (pieces_left 32 w.1))
+TellsFirst fields text (Err (Bad why)) = fields (words_of text) ≡ Err why
+TellsFirst fields text (Err Memory) = Unit {0}

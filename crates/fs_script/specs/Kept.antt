@@ -1,5 +1,4 @@
 -- The lines of a script as they are kept.
-use Rattle.std.specs.Prelude.{ℕ}
 use Rattle.fs_script.specs.declared.statement.Statement.{Statement}
 use Rattle.fs_script.specs.declared.statement.Statement.TheVariants as statement
 use Rattle.fs_script.specs.declared.script.Said.{Said}

@@ -1,5 +1,5 @@
 -- The first words of statements, and where they may stand.
-use Rattle.std.specs.Prelude.{ℕ, Bool, true, false, if◌then◌else◌, List, Option, None, Some, Ok, Err, codes}
+use Rattle.std.specs.Prelude.{ℕ, Bool, true, false, if◌then◌else◌, List, Option, None, Some, Ok, codes}
 use Rattle.std.specs.Str.{bytes_eq}
 use Rattle.fs_model.specs.declared.op.Op.{Op}
 use Rattle.fs_script.specs.declared.keyword.OpWord.{OpWord}

@@ -1,27 +1,10 @@
 -- What the statements of operations say, by the words after the first.
-use Rattle.std.specs.Prelude.{ℕ, ◌==◌, ◌%◌, ◌&&◌, nat_le, Bool, if◌then◌else◌, List, length, Ok, Err}
+use Rattle.std.specs.Prelude.{ℕ, List, Ok}
 use Rattle.fs_model.specs.declared.op.Op.{Op}
 use Rattle.fs_model.specs.declared.op.Op.TheVariants.{Touch, Write, Zero, Truncate, Remove, SetAttrs, RmAttr, RmAttrs, Clone, CloneRange, MoveRename, MkColl, RmColl, OmapClear, OmapSet, OmapRemove, OmapRange}
-use Rattle.fs_script.specs.declared.fault.ScriptWhy.TheVariants.{WrongCount}
 use Rattle.fs_script.specs.Reading.{Reading, ◌>>=◌}
 use Rattle.fs_script.specs.Fields.{coll_field, object_field, number_field, bytes_field, header_field, key_fields, pair_fields}
-use Rattle.fs_script.specs.Words.{one_word, two_words, three_words, five_words, first_word}
-
--- the words, where their count is right
-abbrev pub counted : Bool → List (List ℕ) → Reading (List (List ℕ))
-counted right words = if right then Ok words else Err WrongCount
-
--- an object, and one pair or more
-abbrev pub is_setattr_count : List (List ℕ) → Bool
-is_setattr_count words = nat_le 3 (length words) && length words % 2 == 1
-
--- an object, a header, and pairs
-abbrev pub is_omapset_count : List (List ℕ) → Bool
-is_omapset_count words = nat_le 2 (length words) && length words % 2 == 0
-
--- an object, and one key or more
-abbrev pub is_omaprm_count : List (List ℕ) → Bool
-is_omaprm_count words = nat_le 2 (length words)
+use Rattle.fs_script.specs.Words.{one_word, two_words, three_words, five_words, first_word, some_word, paired}
 
 abbrev pub touch_said : List (List ℕ) → Reading Op
 touch_said words = do
@@ -60,8 +43,9 @@ remove_said words = do
 
 abbrev pub setattr_said : List (List ℕ) → Reading Op
 setattr_said words = do
-  words ← counted (is_setattr_count words) words
   word ← first_word words
+  _ ← some_word word.1
+  _ ← paired word.1
   place ← object_field word.0
   pairs ← pair_fields word.1
   Ok (SetAttrs place.0 place.1 pairs)
@@ -123,18 +107,18 @@ omapclear_said words = do
 
 abbrev pub omapset_said : List (List ℕ) → Reading Op
 omapset_said words = do
-  words ← counted (is_omapset_count words) words
   word ← first_word words
-  place ← object_field word.0
   more ← first_word word.1
+  _ ← paired more.1
+  place ← object_field word.0
   header ← header_field more.0
   pairs ← pair_fields more.1
   Ok (OmapSet place.0 place.1 header pairs)
 
 abbrev pub omaprm_said : List (List ℕ) → Reading Op
 omaprm_said words = do
-  words ← counted (is_omaprm_count words) words
   word ← first_word words
+  _ ← some_word word.1
   place ← object_field word.0
   keys ← key_fields word.1
   Ok (OmapRemove place.0 place.1 keys)

@@ -1,5 +1,5 @@
 -- So many words.
-use Rattle.std.specs.Prelude.{◌≡◌, ◌==◌, ℕ, List, [], ◌∷◌, Option, None, Some, Result, Ok, Err}
+use Rattle.std.specs.Prelude.{◌≡◌, ◌==◌, ℕ, Bool, true, not, if◌then◌else◌, List, [], ◌∷◌, Option, None, Some, Result, Ok, Err}
 use Rattle.std.specs.List.{slice_split}
 use Rattle.std.specs.Borrow.{Bor}
 use Rattle.fs_script.specs.declared.fault.LineFault.{LineFault}
@@ -35,6 +35,19 @@ five_words _ = Err WrongCount
 abbrev pub first_word : List (List ℕ) → Reading (List ℕ × List (List ℕ))
 first_word [] = Err WrongCount
 first_word (word ∷ words) = Ok (word, words)
+
+-- one word or more
+abbrev pub some_word : List (List ℕ) → Reading (Unit {0})
+some_word [] = Err WrongCount
+some_word _ = Ok tt
+
+abbrev pub is_even : List (List ℕ) → Bool
+is_even [] = true
+is_even (word ∷ words) = not (is_even words)
+
+-- two words each
+abbrev pub paired : List (List ℕ) → Reading (Unit {0})
+paired words = if is_even words then Ok tt else Err WrongCount
 
 -- what is left of a text that is cut at a byte, as pieces
 

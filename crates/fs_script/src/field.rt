@@ -4,7 +4,7 @@ ghost use Rattle.std.specs.Option.{ok_or};
 ghost use Rattle.std.specs.Str.{bytes_eq};
 ghost use Rattle.fs_script.specs.declared.fault.ScriptWhy.TheVariants.{BadBytes};
 ghost use Rattle.fs_script.specs.Bytes.{digit_value, byte_of, bytes_of_digits};
-ghost use Rattle.fs_script.specs.Fields.{TellsPair, coll_field, name_field, object_field, number_field, small_field, bytes_field, cursor_field, header_field, key_fields, pair_fields};
+ghost use Rattle.fs_script.specs.Fields.{TellsFirst, coll_field, name_field, object_field, number_field, small_field, bytes_field, cursor_field, header_field, key_fields, pair_fields};
 ghost use Rattle.fs_script.specs.Reading.{Tells};
 ghost use Rattle.fs_script.specs.Words.{pieces_left};
 
@@ -105,6 +105,7 @@ fn push<T: Drop>(items: &mut Vec<T>, item: T) -> Result<(), AllocError>
 }
 
 // The bytes of pairs of digits.
+#[tactic(auto, using(crate::proofs::Digits::digits), unfolding(crate::specs::Bytes::bytes_of_digits))]
 fn decode(alloc: Global, digits: &[u8]) -> Result<Blob, LineFault>
     ensures { Tells (ok_or (bytes_of_digits digits.now) BadBytes) result }
 {
@@ -163,6 +164,17 @@ pub fn header(alloc: Global, word: &[u8]) -> Result<Option<Blob>, LineFault>
     Ok(Some(header))
 }
 
+// The first word as a key, and what stands behind it.
+#[tactic(auto, unfolding(crate::specs::Fields::key_fields))]
+fn key(alloc: Global, text: &[u8]) -> Result<(Blob, Option<&[u8]>), LineFault>
+    ensures key { TellsFirst key_fields text.now result }
+    ensures shorter { IfOk result (λ w. IfSome w.1 (λ rest. length rest.now < length text.now)) }
+{
+    let (key, rest) = cut(text, b' ');
+    let key = bytes(alloc, key)?;
+    Ok((key, rest))
+}
+
 /// Keys, one a word.
 pub fn keys(alloc: Global, words: Option<&[u8]>) -> Result<BlobList, LineFault>
     ensures { Tells (key_fields (pieces_left 32 words.entry)) result }
@@ -170,8 +182,7 @@ pub fn keys(alloc: Global, words: Option<&[u8]>) -> Result<BlobList, LineFault>
     let mut keys = Vec::new(alloc);
     let mut rest = words;
     while let Some(text) = rest {
-        let (word, more) = cut(text, b' ');
-        let key = bytes(alloc, word)?;
+        let (key, more) = key(alloc, text)?;
         push(&mut keys, key)?;
         rest = more;
     }
@@ -179,8 +190,9 @@ pub fn keys(alloc: Global, words: Option<&[u8]>) -> Result<BlobList, LineFault>
 }
 
 // The first two words as a name and its value, and what stands behind them.
+#[tactic(auto, unfolding(crate::specs::Fields::pair_fields))]
 fn pair(alloc: Global, text: &[u8]) -> Result<(Pair, Option<&[u8]>), LineFault>
-    ensures pair { TellsPair text.now result }
+    ensures pair { TellsFirst pair_fields text.now result }
     ensures shorter { IfOk result (λ w. IfSome w.1 (λ rest. length rest.now < length text.now)) }
 {
     let (key, rest) = cut(text, b' ');

@@ -116,21 +116,21 @@ fn other_word(word: &[u8]) -> Option<Keyword>
     }
 }
 
-/// The statement that this word begins.
-#[tactic(auto, unfolding(crate::specs::Keywords::keyword_of))]
-pub fn keyword(word: &[u8]) -> Option<Keyword>
-    ensures { result ≡ keyword_of word.now }
-{
-    match op_word(word) {
-        Some(op) => Some(Keyword::Op(op)),
-        None => other_word(word),
-    }
-}
-
 impl Keyword {
+    /// The statement that this word begins.
+    #[tactic(auto, unfolding(crate::specs::Keywords::keyword_of))]
+    pub fn of(word: &[u8]) -> Option<Keyword>
+        ensures { result ≡ keyword_of word.now }
+    {
+        match op_word(word) {
+            Some(op) => Some(Keyword::Op(op)),
+            None => other_word(word),
+        }
+    }
+
     /// Why a statement may not stand inside a transaction, or outside.
     pub fn misplaced(self, inside: bool) -> Option<ScriptWhy>
-        ensures { result ≡ misplaced inside self.entry }
+        ensures { result ≡ misplaced inside self }
     {
         match (self, inside) {
             (Keyword::Op(_), _) | (Keyword::End, true) => None,

@@ -14,6 +14,8 @@ mod parse;
 mod print;
 mod script;
 mod statement;
+#[cfg(test)]
+mod tests;
 mod words;
 
 pub use answer::Answer;

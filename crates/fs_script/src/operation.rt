@@ -4,7 +4,7 @@ ghost use Rattle.fs_script.specs.Operations.{touch_said, write_said, zero_said, 
 ghost use Rattle.fs_script.specs.Words.{pieces_left};
 ghost use Rattle.fs_script.specs.Keywords.{op_said};
 
-use crate::fault::{LineFault, ScriptWhy};
+use crate::fault::LineFault;
 use crate::keyword::OpWord;
 use crate::{field, words};
 use fs_model::Op;
@@ -56,11 +56,9 @@ fn remove(alloc: Global, rest: Option<&[u8]>) -> Result<Op, LineFault>
 fn setattr(alloc: Global, rest: Option<&[u8]>) -> Result<Op, LineFault>
     ensures { Tells (setattr_said (pieces_left 32 rest.entry)) result }
 {
-    let count = words::count(rest);
-    if count < 3 || count % 2 == 0 {
-        return Err(LineFault::Bad(ScriptWhy::WrongCount));
-    }
     let (place, pairs) = words::first(rest)?;
+    words::some(pairs)?;
+    words::paired(pairs)?;
     let (c, o) = field::object(alloc, place)?;
     let pairs = field::pairs(alloc, pairs)?;
     Ok(Op::SetAttrs { c, o, pairs })
@@ -144,12 +142,9 @@ fn omapclear(alloc: Global, rest: Option<&[u8]>) -> Result<Op, LineFault>
 fn omapset(alloc: Global, rest: Option<&[u8]>) -> Result<Op, LineFault>
     ensures { Tells (omapset_said (pieces_left 32 rest.entry)) result }
 {
-    let count = words::count(rest);
-    if count < 2 || count % 2 == 1 {
-        return Err(LineFault::Bad(ScriptWhy::WrongCount));
-    }
     let (place, rest) = words::first(rest)?;
     let (header, pairs) = words::first(rest)?;
+    words::paired(pairs)?;
     let (c, o) = field::object(alloc, place)?;
     let header = field::header(alloc, header)?;
     let pairs = field::pairs(alloc, pairs)?;
@@ -164,11 +159,8 @@ fn omapset(alloc: Global, rest: Option<&[u8]>) -> Result<Op, LineFault>
 fn omaprm(alloc: Global, rest: Option<&[u8]>) -> Result<Op, LineFault>
     ensures { Tells (omaprm_said (pieces_left 32 rest.entry)) result }
 {
-    let count = words::count(rest);
-    if count < 2 {
-        return Err(LineFault::Bad(ScriptWhy::WrongCount));
-    }
     let (place, keys) = words::first(rest)?;
+    words::some(keys)?;
     let (c, o) = field::object(alloc, place)?;
     let keys = field::keys(alloc, keys)?;
     Ok(Op::OmapRemove { c, o, keys })

@@ -9,7 +9,7 @@ ghost use Rattle.fs_script.specs.Grammar.{statement_said, TellsLine, line_said, 
 
 use crate::cut::cut;
 use crate::fault::{LineFault, ScriptFault, ScriptWhy};
-use crate::keyword::{Keyword, OpWord, keyword};
+use crate::keyword::{Keyword, OpWord};
 use crate::operation::operation;
 use crate::{Line, Script, Statement, field, words};
 use std::alloc::{AllocError, Global};
@@ -66,6 +66,7 @@ fn list(alloc: Global, rest: Option<&[u8]>) -> Result<Statement, LineFault>
     Ok(Statement::List { c, cursor, max })
 }
 
+#[tactic(auto, unfolding(crate::specs::Keywords::keyword_said))]
 fn do_operation(alloc: Global, word: OpWord, rest: Option<&[u8]>) -> Result<Statement, LineFault>
     ensures { Tells (keyword_said (Op word) (pieces_left 32 rest.entry)) result }
 {
@@ -99,7 +100,7 @@ fn statement(alloc: Global, line: &[u8], inside: bool) -> Result<Statement, Line
     ensures { Tells (statement_said inside (words_of line.now)) result }
 {
     let (word, rest) = cut(line, b' ');
-    let Some(keyword) = keyword(word) else {
+    let Some(keyword) = Keyword::of(word) else {
         return Err(LineFault::Bad(ScriptWhy::UnknownWord));
     };
     if let Some(why) = keyword.misplaced(inside) {

@@ -18,20 +18,20 @@ enum Said {
     Other(Box<Statement>),
 }
 
-fn said(alloc: Global, statement: Statement) -> Result<Said, AllocError>
-    ensures { IfOk result (λ said. statement_of said ≡ statement) }
-{
-    match statement {
-        Statement::Begin => Ok(Said::Begin),
-        Statement::End => Ok(Said::End),
-        Statement::Drain => Ok(Said::Drain),
-        Statement::Colls => Ok(Said::Colls),
-        Statement::Acked => Ok(Said::Acked),
-        other => Ok(Said::Other(Box::new(alloc, other)?)),
-    }
-}
-
 impl Said {
+    fn new(alloc: Global, statement: Statement) -> Result<Said, AllocError>
+        ensures { IfOk result (λ said. statement_of said ≡ statement) }
+    {
+        match statement {
+            Statement::Begin => Ok(Said::Begin),
+            Statement::End => Ok(Said::End),
+            Statement::Drain => Ok(Said::Drain),
+            Statement::Colls => Ok(Said::Colls),
+            Statement::Acked => Ok(Said::Acked),
+            other => Ok(Said::Other(Box::new(alloc, other)?)),
+        }
+    }
+
     fn statement(self) -> Statement
         ensures { result ≡ statement_of self }
     {
@@ -66,7 +66,7 @@ impl Kept {
     fn new(alloc: Global, line: Line) -> Result<Kept, AllocError>
         ensures { IfOk result (λ kept. kept ≡ line) }
     {
-        let said = said(alloc, line.statement)?;
+        let said = Said::new(alloc, line.statement)?;
         Ok(Kept {
             number: line.number,
             said,

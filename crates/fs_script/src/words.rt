@@ -1,20 +1,11 @@
+#![tactic(auto, using(crate::proofs::Counts::counts))]
 // So many words, and no more.
-ghost use Rattle.std.specs.Prelude.{◌≡◌, length};
+ghost use Rattle.std.specs.Prelude.{◌≡◌};
 ghost use Rattle.fs_script.specs.Reading.{Tells};
-ghost use Rattle.fs_script.specs.Words.{pieces_left, no_word, GivesOne, GivesTwo, GivesThree, GivesFive, GivesFirst};
+ghost use Rattle.fs_script.specs.Words.{pieces_left, no_word, some_word, is_even, paired, GivesOne, GivesTwo, GivesThree, GivesFive, GivesFirst};
 
 use crate::cut::cut;
 use crate::fault::{LineFault, ScriptWhy};
-
-/// How many words there are.
-pub fn count(rest: Option<&[u8]>) -> usize
-    ensures { result ≡ length (pieces_left 32 rest.entry) }
-{
-    match rest {
-        None => 0,
-        Some(text) => text.iter().filter(|b| **b == b' ').count() + 1,
-    }
-}
 
 pub fn none(rest: Option<&[u8]>) -> Result<(), LineFault>
     ensures { Tells (no_word (pieces_left 32 rest.entry)) result }
@@ -22,6 +13,40 @@ pub fn none(rest: Option<&[u8]>) -> Result<(), LineFault>
     match rest {
         None => Ok(()),
         Some(_) => Err(LineFault::Bad(ScriptWhy::WrongCount)),
+    }
+}
+
+/// One word or more.
+pub fn some(rest: Option<&[u8]>) -> Result<(), LineFault>
+    ensures { Tells (some_word (pieces_left 32 rest.entry)) result }
+{
+    match rest {
+        None => Err(LineFault::Bad(ScriptWhy::WrongCount)),
+        Some(_) => Ok(()),
+    }
+}
+
+fn is_even(words: Option<&[u8]>) -> bool
+    ensures { result ≡ is_even (pieces_left 32 words.entry) }
+{
+    let mut even = true;
+    let mut rest = words;
+    while let Some(text) = rest {
+        let (_, more) = cut(text, b' ');
+        even = !even;
+        rest = more;
+    }
+    even
+}
+
+/// Two words each.
+pub fn paired(words: Option<&[u8]>) -> Result<(), LineFault>
+    ensures { Tells (paired (pieces_left 32 words.entry)) result }
+{
+    if is_even(words) {
+        Ok(())
+    } else {
+        Err(LineFault::Bad(ScriptWhy::WrongCount))
     }
 }
 
@@ -39,8 +64,10 @@ pub fn one(rest: Option<&[u8]>) -> Result<&[u8], LineFault>
     ensures { GivesOne (pieces_left 32 rest.entry) result }
 {
     let (word, rest) = first(rest)?;
-    none(rest)?;
-    Ok(word)
+    match rest {
+        None => Ok(word),
+        Some(_) => Err(LineFault::Bad(ScriptWhy::WrongCount)),
+    }
 }
 
 pub fn two(rest: Option<&[u8]>) -> Result<(&[u8], &[u8]), LineFault>
