@@ -1,24 +1,22 @@
 -- Every ready turn keeps the chain of numbers.
-use Rattle.std.proofs.Common.{◌≡◌, ◌≢◌, ◌⊎◌, inl, inr, ℕ, ◌+◌, ◌<◌, ◌≤◌, max, Bool, true, false, cond, not, ◌||◌, List, [], length, replicate, get_or, set, Option, None, Some, nat_lt, nat_le, nat_eq, refl, sym, ◌∙◌, ap, subst, arith}
+use Rattle.std.proofs.Common.{◌≡◌, ◌≢◌, ◌⊎◌, inl, inr, ℕ, ◌+◌, ◌<◌, ◌≤◌, max, Bool, true, false, cond, not, ◌||◌, [], length, get_or, set, Option, None, Some, nat_lt, nat_le, nat_eq, refl, sym, ◌∙◌, ap, subst, arith}
 use Rattle.std.specs.Prelude.{position}
 use Rattle.std.proofs.lemmas.List.{length-set, length-replicate}
 use Rattle.std.proofs.lemmas.List.Quantifiers.{position-Some}
-use Rattle.fs_names.specs.declared.coll.GroupId.{GroupId}
 use Rattle.fs_names.specs.declared.settings.Mode.{Mode}
 use Rattle.fs_names.specs.declared.settings.Mode.TheVariants.{WriteAhead, Parallel}
 use Rattle.turn_core.specs.declared.turn.Turn.{Turn}
 use Rattle.turn_core.specs.declared.turn.Turn.TheVariants as turn
 use Rattle.turn_core.specs.declared.turn.Phase.{Phase}
 use Rattle.turn_core.specs.declared.turn.Phase.TheVariants as phase
-use Rattle.turn_core.specs.declared.turn.NotReady.{NotReady}
 use Rattle.turn_core.specs.declared.turn.NotReady.TheVariants.{Paused, NothingToStart, NoSlot, EmptySlot, NothingApplied, StillOpen, NotItsPhase}
 use Rattle.turn_core.specs.declared.slots.Slot.{Slot}
 use Rattle.turn_core.specs.declared.state.Core.{Core}
 use Rattle.turn_core.specs.Groups.{meet}
 use Rattle.turn_core.specs.Slots.{is_free, meets_slot, taken, advanced, Holding}
 use Rattle.turn_core.specs.Phases.{is_parallel, is_pausing, is_map_sync, is_tree_sync, is_seq, is_snap, is_trim, is_before_snap, is_paused, is_saving, target}
-use Rattle.turn_core.specs.Table.{start_limit, when, is_none, conflict, commit_missing, missing, placed, after_commit, after, IsWellFormed, IsGiven, front_of, mounted}
-use Rattle.turn_core.specs.Chain.{IsOpen, AreApart, Chain, IsReady, Grows, TurnsLaw}
+use Rattle.turn_core.specs.Table.{start_limit, when, is_none, conflict, commit_missing, missing, placed, after_commit, after, IsWellFormed, IsGiven, front_of}
+use Rattle.turn_core.specs.Chain.{IsOpen, AreApart, Chain, TurnsLaw}
 use Rattle.turn_core.proofs.Rows.{some_not_none, some_same, not_both, turned, passes, both_false, unequal_is, is_below, not_above}
 use Rattle.turn_core.proofs.Places.{Now, set_cases, none_taken, all_free, meet_back, apart_groups, no_conflict, advance_same}
 

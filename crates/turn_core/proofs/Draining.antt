@@ -1,12 +1,10 @@
 -- Draining leaves less to do with each turn, and what holds at its end.
-use Rattle.std.proofs.Common.{◌≡◌, ◌⊎◌, inl, inr, ℕ, suc, ◌+◌, ◌-◌, ◌*◌, ◌<◌, ◌≤◌, max, Bool, true, false, cond, not, ◌||◌, List, [], ◌∷◌, length, get_or, set, Option, None, Some, nat_lt, nat_le, nat_eq, refl, sym, ◌∙◌, ap, subst, arith}
+use Rattle.std.proofs.Common.{◌≡◌, ℕ, suc, ◌+◌, ◌-◌, ◌*◌, ◌<◌, ◌≤◌, max, Bool, true, false, cond, not, ◌||◌, List, [], ◌∷◌, length, get_or, set, Option, None, Some, nat_lt, nat_le, nat_eq, refl, sym, ◌∙◌, ap, subst, arith}
 use Rattle.std.specs.Prelude.{position, IsSome}
 use Rattle.std.proofs.Math.Nat.{suc-mul}
 use Rattle.std.proofs.lemmas.List.Quantifiers.{position-Some}
 use Rattle.std.proofs.lemmas.List.Sums.{sum_by-set, sum_by-cons}
 use Rattle.fs_names.specs.declared.coll.GroupId.{GroupId}
-use Rattle.fs_names.specs.declared.settings.Mode.{Mode}
-use Rattle.fs_names.specs.declared.settings.Mode.TheVariants.{WriteAhead, Parallel}
 use Rattle.turn_core.specs.declared.turn.Turn.{Turn}
 use Rattle.turn_core.specs.declared.turn.Turn.TheVariants as turn
 use Rattle.turn_core.specs.declared.turn.Phase.{Phase}
@@ -16,9 +14,9 @@ use Rattle.turn_core.specs.declared.turn.NotReady.TheVariants.{NothingQueued, No
 use Rattle.turn_core.specs.declared.slots.Slot.{Slot}
 use Rattle.turn_core.specs.declared.state.Core.{Core}
 use Rattle.turn_core.specs.Slots.{is_free, meets_slot, taken, advanced, Holding}
-use Rattle.turn_core.specs.Phases.{is_parallel, is_paused, is_map_sync, is_tree_sync, is_seq, is_snap, is_trim, is_saving, target}
+use Rattle.turn_core.specs.Phases.{is_parallel, is_paused, is_map_sync, is_tree_sync, is_seq, is_snap, is_trim, target}
 use Rattle.turn_core.specs.Table.{start_limit, when, is_none, conflict, commit_missing, missing, placed, after_commit, after, IsGiven, front_of}
-use Rattle.turn_core.specs.Chain.{Chain, IsReady}
+use Rattle.turn_core.specs.Chain.{Chain}
 use Rattle.turn_core.specs.Drain.{left_of, ops_left, queued, turns_left, work, HasAtMost, drains, is_journal, IsDrained, DrainLaw}
 use Rattle.turn_core.proofs.Rows.{some_not_none, not_both, turned, passes, both_false, equal_is, at_most, is_below}
 use Rattle.turn_core.proofs.Places.{held_below, none_passes}

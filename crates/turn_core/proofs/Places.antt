@@ -6,7 +6,6 @@ use Rattle.std.proofs.lemmas.List.{get_or-set_same, get_or-set_other}
 use Rattle.std.proofs.lemmas.List.Sums.{fails_before_first, sum_by-cons}
 use Rattle.fs_names.specs.declared.coll.GroupId.{GroupId}
 use Rattle.fs_names.specs.declared.coll.GroupId.TheVariants.{Meta, Pg}
-use Rattle.turn_core.specs.declared.turn.NotReady.{NotReady}
 use Rattle.turn_core.specs.declared.slots.Slot.{Slot}
 use Rattle.turn_core.specs.Groups.{same, among, meet}
 use Rattle.turn_core.specs.Slots.{is_free, meets_slot, taken, advanced, Holding}

