@@ -1,5 +1,5 @@
 -- Guarded replay of operations ends in the objects that they mean.
-use Rattle.std.proofs.Common.{◌≡◌, ℕ, List, map, refl, sym, ◌∙◌, ap, subst, arith}
+use Rattle.std.proofs.Common.{◌≡◌, ℕ, refl, sym, ◌∙◌, ap, subst, arith}
 use Rattle.std.proofs.lemmas.List.{length-map}
 use Rattle.fs_model.specs.Rows.{fold_ops}
 use Rattle.replay_laws.specs.Replay.{Raises, Replayed}

@@ -1,11 +1,11 @@
 -- Transactions keep to their collections, and an image and a journal stand for objects.
-use Rattle.std.proofs.Common.{◌≡◌, ℕ, zero, suc, ◌-◌, ◌≤◌, Bool, true, false, ◌||◌, List, [], ◌∷◌, length, map, take, get_or, refl, sym, ◌∙◌, ap, subst}
+use Rattle.std.proofs.Common.{◌≡◌, ℕ, zero, suc, ◌-◌, ◌≤◌, Bool, true, false, ◌||◌, List, [], ◌∷◌, map, take, get_or, refl, sym, ◌∙◌, ap, subst}
 use Rattle.std.proofs.lemmas.List.{length-map}
 use Rattle.std.specs.List.{list_any}
 use Rattle.fs_model.specs.declared.op.Op.{Op}
 use Rattle.fs_model.specs.Objects.{Objects}
 use Rattle.fs_model.specs.Rows.{fold_ops, fold_txns}
-use Rattle.replay_laws.specs.Replay.{leaves, Source, fold}
+use Rattle.replay_laws.specs.Replay.{fold}
 use Rattle.replay_laws.proofs.Carried.{fold_append}
 use Rattle.slot_laws.specs.History.{idle_op, OpWithin, flat, count, state}
 use Rattle.slot_laws.specs.Slots.{StandsFor, above}

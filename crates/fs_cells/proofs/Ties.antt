@@ -1,5 +1,5 @@
 -- What the code tests is what the actions say.
-use Rattle.std.proofs.Common.{◌≡◌, ℕ, ◌+◌, ◌-◌, Bool, true, false, cond, ◌&&◌, ◌||◌, List, [], ◌∷◌, Option, Some, None, is_some, refl, arith}
+use Rattle.std.proofs.Common.{◌≡◌, ℕ, ◌-◌, Bool, true, false, cond, ◌&&◌, ◌||◌, List, [], ◌∷◌, Option, Some, None, is_some, refl, arith}
 use Rattle.std.proofs.lemmas.Bool.Decides.{nat_tests}
 use Rattle.std.specs.Prelude.{nat_lt, nat_le}
 use Rattle.std.specs.List.{list_any}
@@ -9,7 +9,6 @@ use Rattle.fs_names.specs.declared.coll.Coll.{Coll}
 use Rattle.fs_names.specs.Order.{coll_cmp, coll_field_cmp, coll_cmp_total, coll_field_cmp_total, coll_cmp-IsAntisymmetric, coll_field_cmp-IsAntisymmetric, same_ties}
 use Rattle.fs_model.specs.declared.pair.Pair.{Pair}
 use Rattle.replay_laws.specs.Replay.{leaves}
-use Rattle.fs_cells.specs.declared.cell.Act.{Act}
 use Rattle.fs_cells.specs.declared.cell.Act.TheVariants.{Leaves, Sets}
 use Rattle.fs_cells.specs.Parts.{CellAct, same_bytes, value_in, set_to, gone_if, is_within}
 use Rattle.fs_cells.specs.Actions.{kind}

@@ -1,5 +1,5 @@
 -- What each operation does to each cell.
-use Rattle.std.specs.Prelude.{ℕ, Bool, if◌then◌else◌, ◌&&◌, List, length, slice_index_or}
+use Rattle.std.specs.Prelude.{Bool, if◌then◌else◌, ◌&&◌, length, slice_index_or}
 use Rattle.std.specs.Ordering.{eq_by_cmp}
 use Rattle.fs_names.specs.declared.coll.Coll.{Coll}
 use Rattle.fs_names.specs.declared.oid.Oid.{Oid}
