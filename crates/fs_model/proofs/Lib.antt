@@ -9,3 +9,5 @@ pub mod Writes
 mod Undoing
 mod Moves
 pub mod Changes
+pub mod ListedPages
+pub mod PlacedColls

@@ -5,12 +5,14 @@ mod blob;
 mod blobs;
 mod check;
 mod coll_names;
+mod coll_order;
 mod edit;
 mod laws;
 mod limits;
 mod object;
 mod oids;
 mod op;
+mod page;
 mod pair;
 mod pair_map;
 mod plain;
@@ -27,9 +29,12 @@ pub use limits::{
 pub use object::PlainObject;
 pub use oids::OidList;
 pub use op::{Op, OpList, Txn, TxnFault, Why};
+pub use page::Page;
 pub use pair::{Pair, PairList};
 pub use pair_map::PairMap;
 pub use plain::PlainObjects;
 
+#[cfg(test)]
+mod listing_tests;
 #[cfg(test)]
 mod tests;

@@ -7,15 +7,16 @@ ghost use Rattle.fs_model.specs.Objects.{look, read_object, with_object, without
 ghost use Rattle.fs_model.specs.Plain.{edited, object_of, IsInReach};
 ghost use Rattle.fs_model.specs.Rows.{row, fold_ops, both_there, part};
 ghost use Rattle.fs_model.specs.Check.{IsWithinLimits, same_object};
-ghost use Rattle.fs_model.specs.Listing.{IsEachOnce, shelf_of};
+ghost use Rattle.fs_model.specs.Listing.{IsEachOnce, listing, shelf_of};
 ghost use Rattle.fs_model.specs.Colls.{colls_of};
 
+use crate::coll_order::{PlacedColl, add, in_order};
 use crate::edit::{Edit, Kept};
 use crate::shelf::PlainShelf;
-use crate::{Blob, CollList, OidList, Op, PlainObject};
+use crate::{Blob, CollList, CollNames, OidList, Op, Page, PlainObject};
 use fs_names::{Coll, Oid};
 use std::alloc::{AllocError, Global};
-use std::collections::BTreeMap;
+use std::collections::{BTreeMap, BTreeSet};
 use std::marker::Model;
 
 /// All objects, by collection. Each operation is done in place, so that what it costs goes by what it holds; an
@@ -91,6 +92,34 @@ impl PlainObjects {
             None => Ok(None),
             Some(shelf) => Ok(Some(shelf.names()?)),
         }
+    }
+
+    /// A page of a collection's listing in hash order, from the first object at or after one on, or from the first of
+    /// all. It costs what the page holds, and a search. None where the collection is missing.
+    pub fn page(&self, c: &Coll, from: Option<&Oid>, max: u32) -> Result<Option<Page>, AllocError>
+        ensures { IfOk result (λ page. page ≡ listing self.now c.now (option_copied from.old) max) }
+    {
+        match self.shelves.get(c) {
+            None => Ok(None),
+            Some(shelf) => Ok(Some(shelf.page(from, max)?)),
+        }
+    }
+
+    /// The collections, in the order of their texts.
+    pub fn coll_names(&self) -> Result<CollNames, AllocError>
+        ensures { IfOk result (λ names. names ≡ map.keys self.now) }
+    {
+        in_order(self.alloc, self.placed_colls()?)
+    }
+
+    fn placed_colls(&self) -> Result<BTreeSet<PlacedColl>, AllocError>
+        ensures { IfOk result (λ set. set.keys ≡ map.keys self.now) }
+    {
+        let mut set = BTreeSet::new(self.alloc);
+        for c in self.shelves.keys() {
+            add(self.alloc, &mut set, *c)?;
+        }
+        Ok(set)
     }
 
     /// Does what the operation means. Where memory runs out, all stays as it was.

@@ -1,13 +1,13 @@
 //! The objects of one collection.
-ghost use Rattle.std.specs.Prelude.{◌≡◌, true, OnOk, OnErr, IfOk};
+ghost use Rattle.std.specs.Prelude.{◌≡◌, true, Some, None, OnOk, OnErr, IfOk};
 ghost use Rattle.std.specs.FinMap as map;
 ghost use Rattle.std.specs.Option.{option_copied, unwrap_or};
 ghost use Rattle.fs_model.specs.Objects.{empty_object};
 ghost use Rattle.fs_model.specs.Plain.{edited, IsInReach};
-ghost use Rattle.fs_model.specs.Listing.{IsEachOnce};
+ghost use Rattle.fs_model.specs.Listing.{IsEachOnce, from_cursor, page_of};
 
-use crate::OidList;
 use crate::edit::{Edit, Kept};
+use crate::{OidList, Page};
 use fs_names::Oid;
 use std::alloc::{AllocError, Global};
 use std::collections::BTreeMap;
@@ -55,6 +55,56 @@ impl PlainShelf {
             names.push(oid.copy()?)?;
         }
         Ok(OidList::from_vec(names))
+    }
+
+    // A page of the names in hash order, from one on. It costs what the page holds, and a search.
+    pub(crate) fn page(&self, from: Option<&Oid>, max: u32) -> Result<Page, AllocError>
+        ensures { IfOk result (λ page. page ≡ page_of (from_cursor self.now (option_copied from.old)) max) }
+    {
+        match from {
+            None => self.first_page(max),
+            Some(first) => self.page_from(first.copy()?, max),
+        }
+    }
+
+    fn first_page(&self, max: u32) -> Result<Page, AllocError>
+        ensures { IfOk result (λ page. page ≡ page_of (from_cursor self.now None) max) }
+    {
+        let mut oids = Vec::new(self.alloc);
+        for (oid, _kept) in self.objects.iter() {
+            let oid = oid.copy()?;
+            if oids.len() == max as usize {
+                return Ok(Page {
+                    oids: OidList::from_vec(oids),
+                    next: Some(oid),
+                });
+            }
+            oids.push(oid)?;
+        }
+        Ok(Page {
+            oids: OidList::from_vec(oids),
+            next: None,
+        })
+    }
+
+    fn page_from(&self, first: Oid, max: u32) -> Result<Page, AllocError>
+        ensures { IfOk result (λ page. page ≡ page_of (from_cursor self.now (Some first)) max) }
+    {
+        let mut oids = Vec::new(self.alloc);
+        for (oid, _kept) in self.objects.range(first..) {
+            let oid = oid.copy()?;
+            if oids.len() == max as usize {
+                return Ok(Page {
+                    oids: OidList::from_vec(oids),
+                    next: Some(oid),
+                });
+            }
+            oids.push(oid)?;
+        }
+        Ok(Page {
+            oids: OidList::from_vec(oids),
+            next: None,
+        })
     }
 
     pub(crate) fn insert(&mut self, o: Oid, kept: Kept) -> Result<(), AllocError>
