@@ -5,4 +5,5 @@ pub mod Reading
 pub mod Replaying
 pub mod Rows
 pub mod Standing
+pub mod Starts
 pub mod Ties

@@ -3,7 +3,7 @@ ghost use Rattle.replay_laws.specs.Keeps.{KeepsLaw};
 ghost use Rattle.replay_laws.specs.Places.{PlacesLaw};
 ghost use Rattle.fs_cells.specs.declared.cell.Cell.{Cell};
 ghost use Rattle.fs_cells.specs.Values.{Value, raise};
-ghost use Rattle.fs_cells.specs.Laws.{DeterminedLaw, FoldLaw, LeavesOthers, OmapApart, ReadsOwn, ReplayOfOps, RowLaw, UniqueEnd};
+ghost use Rattle.fs_cells.specs.Laws.{AllDone, DeterminedLaw, FoldLaw, LeavesOthers, NothingDone, OmapApart, ReadsOwn, ReplayOfOps, RowLaw, UniqueEnd};
 ghost use Rattle.fs_cells.specs.Standing.{JoinLaw, OnceLaw, TxnsWithin};
 
 /// Objects are determined by which collections are there, and by their cells.
@@ -52,4 +52,10 @@ pub fn keeps_law()
     ensures raising { Raises raise }
     ensures one { KeepsLaw Cell Value }
     ensures several { PlacesLaw Cell Value }
+{}
+
+/// Whatever the journal, two starts are good: nothing of it is done, and all of it is done and guarded.
+pub fn starts_law()
+    ensures nothing_done { NothingDone }
+    ensures all_done { AllDone }
 {}

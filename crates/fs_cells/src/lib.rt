@@ -12,7 +12,9 @@ mod laws;
 
 pub use actions::action;
 pub use cell::{Act, Cell, Part};
-pub use laws::{cells_law, keeps_law, reads_law, replay_law, row_law, stands_law, unique_law};
+pub use laws::{
+    cells_law, keeps_law, reads_law, replay_law, row_law, stands_law, starts_law, unique_law,
+};
 
 #[cfg(test)]
 mod tests;
