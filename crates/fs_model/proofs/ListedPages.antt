@@ -15,7 +15,8 @@ use Rattle.std.proofs.lemmas.Option.{slice_get_cases, slice_get_past}
 use Rattle.fs_names.specs.declared.oid.Oid.{Oid}
 use Rattle.fs_names.specs.Order.{oid_cmp, oid_cmp_total, oid_cmp-IsAntisymmetric}
 use Rattle.fs_model.specs.Objects.{Object}
-use Rattle.fs_model.specs.Listing.{Page, page_of, at_or_after, from_cursor}
+use Rattle.fs_model.specs.declared.page.Page.{Page}
+use Rattle.fs_model.specs.Listing.{page_of, at_or_after, from_cursor}
 use Rattle.fs_model.proofs.Maps.{entries-view}
 
 abbrev pub Entries : Type 0

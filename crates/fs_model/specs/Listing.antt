@@ -9,7 +9,7 @@ use Rattle.std.specs.FinMap as map
 use Rattle.fs_names.specs.declared.oid.Oid.{Oid}
 use Rattle.fs_names.specs.declared.coll.Coll.{Coll}
 use Rattle.fs_names.specs.Order.{oid_cmp}
-pub use Rattle.fs_model.specs.declared.page.Page.{Page}
+use Rattle.fs_model.specs.declared.page.Page.{Page}
 use Rattle.fs_model.specs.Objects.{Shelf, Objects}
 
 -- no cursor is before all objects

@@ -97,7 +97,7 @@ impl PlainObjects {
     /// A page of a collection's listing in hash order, from the first object at or after one on, or from the first of
     /// all. It costs what the page holds, and a search. None where the collection is missing.
     pub fn page(&self, c: &Coll, from: Option<&Oid>, max: u32) -> Result<Option<Page>, AllocError>
-        ensures { IfOk result (λ page. page ≡ listing self.now c.now (option_copied from.old) max) }
+        ensures { IfOk result (λ page. page ≡ listing self.now c.now (option_copied from.entry) max) }
     {
         match self.shelves.get(c) {
             None => Ok(None),

@@ -59,7 +59,7 @@ impl PlainShelf {
 
     // A page of the names in hash order, from one on. It costs what the page holds, and a search.
     pub(crate) fn page(&self, from: Option<&Oid>, max: u32) -> Result<Page, AllocError>
-        ensures { IfOk result (λ page. page ≡ page_of (from_cursor self.now (option_copied from.old)) max) }
+        ensures { IfOk result (λ page. page ≡ page_of (from_cursor self.now (option_copied from.entry)) max) }
     {
         match from {
             None => self.first_page(max),

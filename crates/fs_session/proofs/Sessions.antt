@@ -9,7 +9,8 @@ use Rattle.fs_model.specs.declared.op.Txn.{Txn}
 use Rattle.fs_model.specs.declared.op.Why.{Why}
 use Rattle.fs_model.specs.Objects.{Object, look}
 use Rattle.fs_model.specs.Check.{txn_refusal}
-use Rattle.fs_model.specs.Listing.{Page, listing}
+use Rattle.fs_model.specs.declared.page.Page.{Page}
+use Rattle.fs_model.specs.Listing.{listing}
 use Rattle.fs_script.specs.declared.statement.Statement.{Statement}
 use Rattle.fs_script.specs.declared.statement.Statement.TheVariants.{Do, Begin, End, Drain, Read, Stat, Attrs, Omap, List as ListIn, Colls, Acked}
 use Rattle.fs_script.specs.declared.statement.Line.{Line}
@@ -111,8 +112,10 @@ within-contains n (x ∷ xs) acked seq h c = by-place (split-at x xs (Drained ac
     tail : (n : ℕ) (x : Answer) (xs : List Answer) → Within n (x ∷ xs) → Within n xs
     tail n (Drained a b) xs h = h.1
     tail n _ xs h = h
+
     head : (n : ℕ) (x : Answer) (xs : List Answer) (acked seq : ℕ) → x ≡ Drained acked seq → Within n (x ∷ xs) → acked ≤ n
     head n x xs acked seq e h = (subst (λ (y : Answer). Within n (y ∷ xs)) e h).0
+
     by-place : (x ≡ Drained acked seq) ⊎ Contains xs (Drained acked seq) → acked ≤ n
     by-place (inl e) = head n x xs acked seq e h
     by-place (inr there) = within-contains n xs acked seq (tail n x xs h) there

@@ -234,7 +234,7 @@ impl JournalStore {
     /// A page of a collection's listing in hash order, from the first object at or after one on, or from the first of
     /// all. It costs what the page holds, and a search.
     pub fn list(&self, c: &Coll, from: Option<&Oid>, max: u32) -> Result<Option<Page>, AllocError>
-        ensures { IfOk result (λ page. page ≡ listing self.now.session.objects c.now (option_copied from.old) max) }
+        ensures { IfOk result (λ page. page ≡ listing self.now.session.objects c.now (option_copied from.entry) max) }
     {
         self.objects.page(c, from, max)
     }

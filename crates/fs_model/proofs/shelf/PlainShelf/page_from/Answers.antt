@@ -6,7 +6,8 @@ use Rattle.std.proofs.lemmas.Map.Iter.{iter_end, rest_so_far, rest_more}
 use Rattle.fs_names.specs.declared.oid.Oid.{Oid}
 use Rattle.fs_names.specs.Order.{oid_cmp}
 use Rattle.fs_model.specs.Objects.{Shelf}
-use Rattle.fs_model.specs.Listing.{Page, page_of, from_cursor}
+use Rattle.fs_model.specs.declared.page.Page.{Page}
+use Rattle.fs_model.specs.Listing.{page_of, from_cursor}
 use Rattle.fs_model.proofs.ListedPages.{Entries, oids_of, full_page, last_page, from_one}
 use Rattle.fs_model.proofs.shelf.PlainShelf.page_from.Goals as goal
 
