@@ -22,6 +22,7 @@ use status::Status;
 use std::alloc::AllocError;
 use std::fs::Files;
 use std::io::ErrorKind;
+use std::os::unix::fs::FileExt;
 use std::process::ExitCode;
 use std::rt::Env;
 use std::{env, io};
@@ -49,7 +50,10 @@ fn read_arguments(rt: &(impl Env + AllocGlobal)) -> io::Result<Option<Arguments>
 /// Runs the command of the command line over standard input and output and the file of the journal.
 fn status_of<R: Env + AllocGlobal + Files + Input + Print + Clone + Drop>(
     rt: &R,
-) -> Result<Status, AllocError> {
+) -> Result<Status, AllocError>
+where
+    R::File: FileExt,
+{
     let mut source = RealSource::new(rt.clone()?);
     let mut sink = RealSink::new(rt.clone()?);
     let arguments = match read_arguments(rt) {

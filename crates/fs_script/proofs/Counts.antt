@@ -3,7 +3,8 @@ use Rattle.std.proofs.Common.{◌≡◌, ℕ, Bool, List, ◌∷◌, refl}
 use Rattle.std.specs.Prelude.{Err}
 use Rattle.std.specs.List.{slice_split}
 use Rattle.fs_script.specs.declared.fault.ScriptWhy.TheVariants.{BadObject, WrongCount}
-use Rattle.fs_script.specs.Grammar.{object_parts, no_word, one_word, three_words}
+use Rattle.fs_script.specs.Fields.{object_parts}
+use Rattle.fs_script.specs.Words.{no_word, one_word, two_words}
 use Rattle.fs_script.proofs.Cuts.{some-piece}
 
 pub object_parts-more : (p : ℕ → Bool) (c o r : List ℕ) → object_parts (c ∷ o ∷ slice_split p r) ≡ Err BadObject
@@ -12,10 +13,4 @@ object_parts-more p c o r = some-piece p r (λ (l : List (List ℕ)). object_par
 pub no_word-more : (p : ℕ → Bool) (r : List ℕ) → no_word (slice_split p r) ≡ Err WrongCount
 no_word-more p r = some-piece p r (λ (l : List (List ℕ)). no_word l ≡ Err WrongCount) (λ a more. refl)
 
-pub one_word-more : (p : ℕ → Bool) (a r : List ℕ) → one_word (a ∷ slice_split p r) ≡ Err WrongCount
-one_word-more p a r = some-piece p r (λ (l : List (List ℕ)). one_word (a ∷ l) ≡ Err WrongCount) (λ b bs. refl)
-
-pub three_words-more : (p : ℕ → Bool) (a b c r : List ℕ) → three_words (a ∷ b ∷ c ∷ slice_split p r) ≡ Err WrongCount
-three_words-more p a b c r = some-piece p r (λ (l : List (List ℕ)). three_words (a ∷ b ∷ c ∷ l) ≡ Err WrongCount) (λ d ds. refl)
-
-pub ruleset counts = (object_parts-more, no_word-more, one_word-more, three_words-more)
+pub ruleset counts = (object_parts-more, no_word-more)

@@ -1,16 +1,18 @@
 use crate::{Cursor, at_or_after, order};
 use fs_names::{Oid, decode_oid};
+use std::alloc::Global;
 use std::cmp::Ordering;
+use std::process::Abort;
 use std::test::Fail;
 
-fn object(rt: &HostRuntime, text: &str) -> Result<Oid, Fail> {
-    Ok(decode_oid(rt.alloc(), text.as_bytes())?)
+fn object(alloc: Global, text: &str) -> Result<Oid, Fail> {
+    Ok(decode_oid(alloc, text.as_bytes())?)
 }
 
 /// The first text comes before the second.
-fn comes_first(rt: &HostRuntime, first: &str, second: &str) -> Result<(), Fail> {
-    let a = object(rt, first)?;
-    let b = object(rt, second)?;
+fn comes_first(rt: &impl Abort, alloc: Global, first: &str, second: &str) -> Result<(), Fail> {
+    let a = object(alloc, first)?;
+    let b = object(alloc, second)?;
     assert!(rt; order(&a, &b) == Ordering::Less, "{first} {second}");
     assert!(rt; order(&b, &a) == Ordering::Greater, "{second} {first}");
     assert!(rt; order(&a, &a) == Ordering::Equal, "{first}");
@@ -47,17 +49,17 @@ fn objects_come_by_the_digits_of_their_hashes_and_then_by_their_texts(
         ("a__head_00000001__ff", "a__head_00000001__none"),
     ];
     for (first, second) in cases {
-        comes_first(&rt, first, second)?;
+        comes_first(&rt, rt.alloc(), first, second)?;
     }
     Ok(())
 }
 
 #[test]
 fn a_listing_begins_at_its_cursor(rt: HostRuntime) -> Result<(), Fail> {
-    let before = object(&rt, "b__head_00000010__1")?;
-    let at = object(&rt, "a__head_00000001__1")?;
+    let before = object(rt.alloc(), "b__head_00000010__1")?;
+    let at = object(rt.alloc(), "a__head_00000001__1")?;
     assert!(rt; at_or_after(&before, &Cursor::Start));
-    let cursor = Cursor::At(object(&rt, "a__head_00000001__1")?);
+    let cursor = Cursor::At(object(rt.alloc(), "a__head_00000001__1")?);
     assert!(rt; at_or_after(&at, &cursor));
     assert!(rt; !at_or_after(&before, &cursor));
     Ok(())

@@ -3,8 +3,8 @@ use Rattle.std.specs.Prelude.{◌≤◌, ℕ, Result, IsErrOf}
 use Rattle.fault_count.specs.Counted.{Counted}
 use Rattle.tree_api.specs.declared.tree.TreeError.{TreeError}
 use Rattle.tree_api.specs.declared.tree.TreeError.TheVariants as tree
-use Rattle.lfn_index.specs.declared.fault.IndexFault.{IndexFault}
-use Rattle.lfn_index.specs.declared.fault.IndexFault.TheVariants as index
+use Rattle.index_fault.specs.declared.IndexFault.{IndexFault}
+use Rattle.index_fault.specs.declared.IndexFault.TheVariants as index
 use Rattle.tree_bench.specs.declared.fault.Fault.{Fault}
 use Rattle.tree_bench.specs.declared.fault.Fault.TheVariants.{Usage, Tree, Objects, Memory}
 

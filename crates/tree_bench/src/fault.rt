@@ -3,7 +3,7 @@ ghost use Rattle.std.specs.Prelude.{◌≡◌};
 
 use dev_edge::EdgeFault;
 use fs_names::NameFault;
-use lfn_index::IndexFault;
+use index_fault::IndexFault;
 use std::alloc::AllocError;
 use tree_api::TreeError;
 
@@ -23,7 +23,7 @@ pub enum Fault {
 }
 
 impl From<EdgeFault> for Fault {
-    ghost use Rattle.tree_bench.specs.declared.fault.Fault.TheVariants.{Edge};
+    ghost use Rattle.tree_bench.specs.declared.fault.Fault.TheVariants.{Edge, Name, Memory};
 
     ghost from_gives = { λ _ f. f ≡ Edge };
 
@@ -33,7 +33,7 @@ impl From<EdgeFault> for Fault {
 }
 
 impl From<TreeError> for Fault {
-    ghost use Rattle.tree_bench.specs.Faults.{of_tree};
+    ghost use Rattle.tree_bench.specs.Faults.{of_tree, of_index};
 
     ghost from_gives = { λ fault f. f ≡ of_tree fault };
 
@@ -46,8 +46,6 @@ impl From<TreeError> for Fault {
 }
 
 impl From<IndexFault> for Fault {
-    ghost use Rattle.tree_bench.specs.Faults.{of_index};
-
     ghost from_gives = { λ fault f. f ≡ of_index fault };
 
     fn from(fault: IndexFault) -> Fault {
@@ -60,8 +58,6 @@ impl From<IndexFault> for Fault {
 }
 
 impl From<NameFault> for Fault {
-    ghost use Rattle.tree_bench.specs.declared.fault.Fault.TheVariants.{Name};
-
     ghost from_gives = { λ fault f. f ≡ Name fault };
 
     fn from(fault: NameFault) -> Fault {
@@ -70,8 +66,6 @@ impl From<NameFault> for Fault {
 }
 
 impl From<AllocError> for Fault {
-    ghost use Rattle.tree_bench.specs.declared.fault.Fault.TheVariants.{Memory};
-
     ghost from_gives = { λ _ f. f ≡ Memory };
 
     fn from(_fault: AllocError) -> Fault {

@@ -66,8 +66,9 @@ fn make_all<T: FileTree>(
     dir: &TreePath,
     count: u32,
 ) -> Result<(), Fault>
-    requires untold { T.tells → ⊥ }
+    requires untold { T.tells tree.old → ⊥ }
     requires elsewhere { dir.now ≢ aside }
+    ensures told { T.tells tree.new → T.tells tree.old }
     ensures cause { HasCause (T.disk tree.old).faults (T.disk tree.new).faults result }
     ensures syncs { (T.disk tree.new).syncs ≡ (T.disk tree.old).syncs }
 {
@@ -90,7 +91,8 @@ fn path_of<T: FileTree>(
     dir: &TreePath,
     hash: u32,
 ) -> Result<TreePath, Fault>
-    requires untold { T.tells → ⊥ }
+    requires untold { T.tells tree.old → ⊥ }
+    ensures told { T.tells tree.new → T.tells tree.old }
     ensures cause { HasCause (T.disk tree.old).faults (T.disk tree.new).faults result }
     ensures syncs { (T.disk tree.new).syncs ≡ (T.disk tree.old).syncs }
 {
@@ -107,7 +109,8 @@ fn find_all<T: FileTree>(
     dir: &TreePath,
     count: u32,
 ) -> Result<(), Fault>
-    requires untold { T.tells → ⊥ }
+    requires untold { T.tells tree.old → ⊥ }
+    ensures told { T.tells tree.new → T.tells tree.old }
     ensures cause { HasCause (T.disk tree.old).faults (T.disk tree.new).faults result }
     ensures syncs { (T.disk tree.new).syncs ≡ (T.disk tree.old).syncs }
 {
@@ -123,7 +126,8 @@ fn remove_all<T: FileTree>(
     dir: &TreePath,
     count: u32,
 ) -> Result<(), Fault>
-    requires untold { T.tells → ⊥ }
+    requires untold { T.tells tree.old → ⊥ }
+    ensures told { T.tells tree.new → T.tells tree.old }
     ensures cause { HasCause (T.disk tree.old).faults (T.disk tree.new).faults result }
     ensures syncs { (T.disk tree.new).syncs ≡ (T.disk tree.old).syncs }
 {
@@ -140,7 +144,8 @@ pub fn do_command<T: FileTree>(
     tree: &mut T,
     count: u32,
 ) -> Result<(), Fault>
-    requires untold { T.tells → ⊥ }
+    requires untold { T.tells tree.old → ⊥ }
+    ensures told { T.tells tree.new → T.tells tree.old }
     ensures cause { HasCause (T.disk tree.old).faults (T.disk tree.new).faults result }
     ensures syncs { (T.disk tree.new).syncs ≡ (T.disk tree.old).syncs }
 {

@@ -30,7 +30,7 @@ pub struct MemoryTree {
 impl MemoryTree {
     ghost use Rattle.std.specs.Prelude.{◌≡◌, ◌+◌, true, IfOk, IfErr, IsErrOf};
     ghost use Rattle.tree_api.specs.declared.tree.TreeError.TheVariants.{Memory, Refused};
-    ghost use Rattle.tree_api.specs.Disk.{Quiet};
+    ghost use Rattle.tree_api.specs.Counts.{Counts};
     ghost use Rattle.tree_memory.specs.History.{settled};
     ghost use Rattle.tree_memory.specs.Log.{run, start, suits, adds};
     ghost use Rattle.tree_memory.specs.Valid.{IsValid};
@@ -110,7 +110,7 @@ impl MemoryTree {
         requires valid { IfOk event (λ e. IsValid (count_of self.old.store + adds e) (run e (history_of self.old))) }
         ensures did { Did event (state_of self.old) (state_of self.new) result }
         ensures plan { IsNumbered (plan_of self.old) (plan_of self.new) (IsErrOf result Refused) }
-        ensures counts { Quiet (disk_of self.old) (disk_of self.new) result }
+        ensures counts { Counts (IsErrOf result Refused) 0 0 (disk_of self.old) (disk_of self.new) }
     {
         if self.plan.next() {
             return Err(TreeError::Refused);

@@ -7,19 +7,22 @@ impl FileTree for MemoryTree {
     ghost use Rattle.std.specs.Prelude.{◌≡◌, ◌≢◌, ◌⊎◌, ◌<◌, ◌≤◌, ◌+◌, ◌^◌, [], length, Some, None, IfOk, IsOk, IsErr, IsErrOf};
     ghost use Rattle.tree_api.specs.declared.tree.TreeError.TheVariants.{Refused};
     ghost use Rattle.tree_api.specs.Tree.{look, file_of, IsFile, IsDir, IsAbove, HasParent, MovedFile, MovedDir, Gone, Written, AttrIs, Cut, IsEmptyDir, new_dir, content};
-    ghost use Rattle.tree_api.specs.Disk.{Stays, NameChange, Creation, Change, Synced, SyncedNames, SyncedAll, CountsSync, SnapChange, Rollback, Quiet, Looked, ReadAt};
+    ghost use Rattle.tree_api.specs.Disk.{Still, NameChange, Creation, Change, Synced, SyncedNames, SyncedAll, SnapChange, Rollback, ReadAt};
+    ghost use Rattle.tree_api.specs.Counts.{Counts};
+    ghost use Rattle.fault_count.specs.Counted.{one_more};
     ghost use Rattle.tree_api.specs.Answer.{IsStat, HasAttr, HasAttrs, IsListing, AreSnapshots};
     ghost use Rattle.tree_memory.specs.Tells.{disk_of, plan_of, IsNumbered};
     ghost use Rattle.tree_memory.specs.Laws.{tree_sound};
 
-    ghost tells = { Unit {0} };
+    ghost tells = { λ s. Unit {0} };
 
     ghost disk = { disk_of };
 
     fn stat(&mut self, path: &TreePath) -> Result<Option<Stat>, TreeError>
-        ensures stays { Unit {0} → Stays (disk_of self.old) (disk_of self.new) }
+        ensures still { Unit {0} → Still (disk_of self.old) (disk_of self.new) }
         ensures answer { Unit {0} → IfOk result (λ s. IsStat (look (disk_of self.old).tree path.now) s) }
-        ensures counts { Looked (Unit {0}) (disk_of self.old) (disk_of self.new) result }
+        ensures look { Unit {0} → (disk_of self.new).looks ≡ one_more (disk_of self.old).looks }
+        ensures counts { Counts (IsErrOf result Refused) 1 0 (disk_of self.old) (disk_of self.new) }
         ensures plan { IsNumbered (plan_of self.old) (plan_of self.new) (IsErrOf result Refused) }
     {
         self.looks = self.looks.saturating_add(1);
@@ -31,9 +34,10 @@ impl FileTree for MemoryTree {
 
     fn list(&mut self, dir: &TreePath) -> Result<Vec<Entry>, TreeError>
         requires dir { Unit {0} → IsDir (disk_of self.old).tree dir.now }
-        ensures stays { Unit {0} → Stays (disk_of self.old) (disk_of self.new) }
+        ensures still { Unit {0} → Still (disk_of self.old) (disk_of self.new) }
         ensures entries { Unit {0} → IfOk result (λ es. IsListing (disk_of self.old).tree dir.now es.items) }
-        ensures counts { Looked (Unit {0}) (disk_of self.old) (disk_of self.new) result }
+        ensures look { Unit {0} → (disk_of self.new).looks ≡ one_more (disk_of self.old).looks }
+        ensures counts { Counts (IsErrOf result Refused) 1 0 (disk_of self.old) (disk_of self.new) }
         ensures plan { IsNumbered (plan_of self.old) (plan_of self.new) (IsErrOf result Refused) }
     {
         self.looks = self.looks.saturating_add(1);
@@ -46,7 +50,7 @@ impl FileTree for MemoryTree {
     fn make_dir(&mut self, path: &TreePath) -> Result<(), TreeError>
         requires free { Unit {0} → ((disk_of self.old).tree.at path.now ≡ None) × HasParent (disk_of self.old).tree path.now }
         ensures change { Unit {0} → Creation path.now new_dir (disk_of self.old) (disk_of self.new) result }
-        ensures counts { Quiet (disk_of self.old) (disk_of self.new) result }
+        ensures counts { Counts (IsErrOf result Refused) 0 0 (disk_of self.old) (disk_of self.new) }
         ensures plan { IsNumbered (plan_of self.old) (plan_of self.new) (IsErrOf result Refused) }
     {
         let event = self.store.making(path, true);
@@ -56,7 +60,7 @@ impl FileTree for MemoryTree {
     fn create(&mut self, path: &TreePath) -> Result<(), TreeError>
         requires free { Unit {0} → ((disk_of self.old).tree.at path.now ≡ None) × HasParent (disk_of self.old).tree path.now }
         ensures change { Unit {0} → Creation path.now (file_of []) (disk_of self.old) (disk_of self.new) result }
-        ensures counts { Quiet (disk_of self.old) (disk_of self.new) result }
+        ensures counts { Counts (IsErrOf result Refused) 0 0 (disk_of self.old) (disk_of self.new) }
         ensures plan { IsNumbered (plan_of self.old) (plan_of self.new) (IsErrOf result Refused) }
     {
         let event = self.store.making(path, false);
@@ -66,7 +70,7 @@ impl FileTree for MemoryTree {
     fn remove_file(&mut self, path: &TreePath) -> Result<(), TreeError>
         requires file { Unit {0} → IsFile (disk_of self.old).tree path.now }
         ensures change { Unit {0} → NameChange (Gone path.now) (disk_of self.old) (disk_of self.new) result }
-        ensures counts { Quiet (disk_of self.old) (disk_of self.new) result }
+        ensures counts { Counts (IsErrOf result Refused) 0 0 (disk_of self.old) (disk_of self.new) }
         ensures plan { IsNumbered (plan_of self.old) (plan_of self.new) (IsErrOf result Refused) }
     {
         let event = self.store.removing(path);
@@ -77,7 +81,7 @@ impl FileTree for MemoryTree {
         requires named { path.now ≢ [] }
         requires empty { Unit {0} → IsEmptyDir (disk_of self.old).tree path.now }
         ensures change { Unit {0} → NameChange (Gone path.now) (disk_of self.old) (disk_of self.new) result }
-        ensures counts { Quiet (disk_of self.old) (disk_of self.new) result }
+        ensures counts { Counts (IsErrOf result Refused) 0 0 (disk_of self.old) (disk_of self.new) }
         ensures plan { IsNumbered (plan_of self.old) (plan_of self.new) (IsErrOf result Refused) }
     {
         let event = self.store.removing(path);
@@ -91,7 +95,7 @@ impl FileTree for MemoryTree {
         requires parent { Unit {0} → HasParent (disk_of self.old).tree to.now }
         ensures file { Unit {0} → IsFile (disk_of self.old).tree from.now → NameChange (MovedFile from.now to.now) (disk_of self.old) (disk_of self.new) result }
         ensures dir { Unit {0} → IsDir (disk_of self.old).tree from.now → NameChange (MovedDir from.now to.now) (disk_of self.old) (disk_of self.new) result }
-        ensures counts { Quiet (disk_of self.old) (disk_of self.new) result }
+        ensures counts { Counts (IsErrOf result Refused) 0 0 (disk_of self.old) (disk_of self.new) }
         ensures plan { IsNumbered (plan_of self.old) (plan_of self.new) (IsErrOf result Refused) }
     {
         let event = self.store.moving(from, to);
@@ -101,10 +105,10 @@ impl FileTree for MemoryTree {
     fn read_at(&mut self, path: &TreePath, at: u64, into: &mut [u8]) -> Result<usize, TreeError>
         requires file { Unit {0} → IsFile (disk_of self.old).tree path.now }
         requires place { at + length into.old < 2 ^ 63 }
-        ensures stays { Unit {0} → Stays (disk_of self.old) (disk_of self.new) }
+        ensures still { Unit {0} → Still (disk_of self.old) (disk_of self.new) }
         ensures within { IfOk result (λ n. n ≤ length into.old) }
         ensures bytes { Unit {0} → IfOk result (λ n. ReadAt (disk_of self.old).tree path.now at into.old n into.new) }
-        ensures counts { Quiet (disk_of self.old) (disk_of self.new) result }
+        ensures counts { Counts (IsErrOf result Refused) 0 0 (disk_of self.old) (disk_of self.new) }
         ensures plan { IsNumbered (plan_of self.old) (plan_of self.new) (IsErrOf result Refused) }
     {
         if self.plan.next() {
@@ -119,7 +123,7 @@ impl FileTree for MemoryTree {
         requires file { Unit {0} → IsFile (disk_of self.old).tree path.now }
         requires place { at + length bytes.now < 2 ^ 63 }
         ensures change { Unit {0} → Change path.now (Written at bytes.now) (disk_of self.old) (disk_of self.new) result }
-        ensures counts { Quiet (disk_of self.old) (disk_of self.new) result }
+        ensures counts { Counts (IsErrOf result Refused) 0 0 (disk_of self.old) (disk_of self.new) }
         ensures plan { IsNumbered (plan_of self.old) (plan_of self.new) (IsErrOf result Refused) }
     {
         let event = self.store.writing(path, at, bytes);
@@ -130,7 +134,7 @@ impl FileTree for MemoryTree {
         requires file { Unit {0} → IsFile (disk_of self.old).tree path.now }
         requires place { len < 2 ^ 63 }
         ensures change { Unit {0} → Change path.now (Cut len) (disk_of self.old) (disk_of self.new) result }
-        ensures counts { Quiet (disk_of self.old) (disk_of self.new) result }
+        ensures counts { Counts (IsErrOf result Refused) 0 0 (disk_of self.old) (disk_of self.new) }
         ensures plan { IsNumbered (plan_of self.old) (plan_of self.new) (IsErrOf result Refused) }
     {
         let event = self.store.cutting(path, len);
@@ -139,9 +143,9 @@ impl FileTree for MemoryTree {
 
     fn attr(&mut self, path: &TreePath, name: &[u8]) -> Result<Option<Vec<u8>>, TreeError>
         requires there { Unit {0} → (disk_of self.old).tree.at path.now ≢ None }
-        ensures stays { Unit {0} → Stays (disk_of self.old) (disk_of self.new) }
+        ensures still { Unit {0} → Still (disk_of self.old) (disk_of self.new) }
         ensures value { Unit {0} → IfOk result (λ v. HasAttr (look (disk_of self.old).tree path.now) name.now v) }
-        ensures counts { Quiet (disk_of self.old) (disk_of self.new) result }
+        ensures counts { Counts (IsErrOf result Refused) 0 0 (disk_of self.old) (disk_of self.new) }
         ensures plan { IsNumbered (plan_of self.old) (plan_of self.new) (IsErrOf result Refused) }
     {
         if self.plan.next() {
@@ -155,7 +159,7 @@ impl FileTree for MemoryTree {
     fn set_attr(&mut self, path: &TreePath, name: &[u8], value: &[u8]) -> Result<(), TreeError>
         requires there { Unit {0} → (disk_of self.old).tree.at path.now ≢ None }
         ensures change { Unit {0} → Change path.now (AttrIs name.now (Some value.now)) (disk_of self.old) (disk_of self.new) result }
-        ensures counts { Quiet (disk_of self.old) (disk_of self.new) result }
+        ensures counts { Counts (IsErrOf result Refused) 0 0 (disk_of self.old) (disk_of self.new) }
         ensures plan { IsNumbered (plan_of self.old) (plan_of self.new) (IsErrOf result Refused) }
     {
         let event = self.store.setting(path, name, value);
@@ -165,7 +169,7 @@ impl FileTree for MemoryTree {
     fn remove_attr(&mut self, path: &TreePath, name: &[u8]) -> Result<(), TreeError>
         requires there { Unit {0} → (disk_of self.old).tree.at path.now ≢ None }
         ensures change { Unit {0} → Change path.now (AttrIs name.now None) (disk_of self.old) (disk_of self.new) result }
-        ensures counts { Quiet (disk_of self.old) (disk_of self.new) result }
+        ensures counts { Counts (IsErrOf result Refused) 0 0 (disk_of self.old) (disk_of self.new) }
         ensures plan { IsNumbered (plan_of self.old) (plan_of self.new) (IsErrOf result Refused) }
     {
         let event = self.store.unsetting(path, name);
@@ -174,9 +178,9 @@ impl FileTree for MemoryTree {
 
     fn attrs(&mut self, path: &TreePath) -> Result<Vec<AttrName>, TreeError>
         requires there { Unit {0} → (disk_of self.old).tree.at path.now ≢ None }
-        ensures stays { Unit {0} → Stays (disk_of self.old) (disk_of self.new) }
+        ensures still { Unit {0} → Still (disk_of self.old) (disk_of self.new) }
         ensures names { Unit {0} → IfOk result (λ ns. HasAttrs (look (disk_of self.old).tree path.now) ns.items) }
-        ensures counts { Quiet (disk_of self.old) (disk_of self.new) result }
+        ensures counts { Counts (IsErrOf result Refused) 0 0 (disk_of self.old) (disk_of self.new) }
         ensures plan { IsNumbered (plan_of self.old) (plan_of self.new) (IsErrOf result Refused) }
     {
         if self.plan.next() {
@@ -190,7 +194,7 @@ impl FileTree for MemoryTree {
     fn sync_file(&mut self, path: &TreePath) -> Result<(), TreeError>
         requires there { Unit {0} → (disk_of self.old).tree.at path.now ≢ None }
         ensures synced { Unit {0} → Synced path.now (disk_of self.old) (disk_of self.new) result }
-        ensures counts { Quiet (disk_of self.old) (disk_of self.new) result }
+        ensures counts { Counts (IsErrOf result Refused) 0 0 (disk_of self.old) (disk_of self.new) }
         ensures plan { IsNumbered (plan_of self.old) (plan_of self.new) (IsErrOf result Refused) }
     {
         let event = self.store.syncing(path);
@@ -199,7 +203,7 @@ impl FileTree for MemoryTree {
 
     fn sync_names(&mut self) -> Result<(), TreeError>
         ensures synced { Unit {0} → SyncedNames (disk_of self.old) (disk_of self.new) result }
-        ensures counts { Quiet (disk_of self.old) (disk_of self.new) result }
+        ensures counts { Counts (IsErrOf result Refused) 0 0 (disk_of self.old) (disk_of self.new) }
         ensures plan { IsNumbered (plan_of self.old) (plan_of self.new) (IsErrOf result Refused) }
     {
         self.call(Ok(Event::SyncNames))
@@ -207,7 +211,8 @@ impl FileTree for MemoryTree {
 
     fn sync_all(&mut self) -> Result<(), Failed>
         ensures synced { Unit {0} → SyncedAll (disk_of self.old) (disk_of self.new) (IsOk result) }
-        ensures counts { CountsSync (disk_of self.old) (disk_of self.new) (IsErr result) }
+        ensures sync { (disk_of self.new).syncs ≡ one_more (disk_of self.old).syncs }
+        ensures counts { Counts (IsErr result) 0 1 (disk_of self.old) (disk_of self.new) }
         ensures plan { IsNumbered (plan_of self.old) (plan_of self.new) (IsErr result) }
     {
         self.syncs = self.syncs.saturating_add(1);
@@ -225,7 +230,7 @@ impl FileTree for MemoryTree {
     fn snapshot(&mut self, seq: u64) -> Result<(), TreeError>
         requires free { Unit {0} → (disk_of self.old).tree.snap seq ≡ None }
         ensures change { Unit {0} → SnapChange seq (Some (content (disk_of self.old).tree)) (disk_of self.old) (disk_of self.new) result }
-        ensures counts { Quiet (disk_of self.old) (disk_of self.new) result }
+        ensures counts { Counts (IsErrOf result Refused) 0 0 (disk_of self.old) (disk_of self.new) }
         ensures plan { IsNumbered (plan_of self.old) (plan_of self.new) (IsErrOf result Refused) }
     {
         self.call(Ok(Event::Snapshot { seq }))
@@ -234,7 +239,7 @@ impl FileTree for MemoryTree {
     fn rollback(&mut self, seq: u64) -> Result<(), TreeError>
         requires there { Unit {0} → (disk_of self.old).tree.snap seq ≢ None }
         ensures change { Unit {0} → (kept : _) → (disk_of self.old).tree.snap seq ≡ Some kept → Rollback kept (disk_of self.old) (disk_of self.new) result }
-        ensures counts { Quiet (disk_of self.old) (disk_of self.new) result }
+        ensures counts { Counts (IsErrOf result Refused) 0 0 (disk_of self.old) (disk_of self.new) }
         ensures plan { IsNumbered (plan_of self.old) (plan_of self.new) (IsErrOf result Refused) }
     {
         let event = self.store.restoring(seq);
@@ -244,16 +249,16 @@ impl FileTree for MemoryTree {
     fn drop_snapshot(&mut self, seq: u64) -> Result<(), TreeError>
         requires there { Unit {0} → (disk_of self.old).tree.snap seq ≢ None }
         ensures change { Unit {0} → SnapChange seq None (disk_of self.old) (disk_of self.new) result }
-        ensures counts { Quiet (disk_of self.old) (disk_of self.new) result }
+        ensures counts { Counts (IsErrOf result Refused) 0 0 (disk_of self.old) (disk_of self.new) }
         ensures plan { IsNumbered (plan_of self.old) (plan_of self.new) (IsErrOf result Refused) }
     {
         self.call(Ok(Event::DropSnapshot { seq }))
     }
 
     fn snapshots(&mut self) -> Result<Vec<u64>, TreeError>
-        ensures stays { Unit {0} → Stays (disk_of self.old) (disk_of self.new) }
+        ensures still { Unit {0} → Still (disk_of self.old) (disk_of self.new) }
         ensures numbers { Unit {0} → IfOk result (λ ks. AreSnapshots (disk_of self.old).tree ks.items) }
-        ensures counts { Quiet (disk_of self.old) (disk_of self.new) result }
+        ensures counts { Counts (IsErrOf result Refused) 0 0 (disk_of self.old) (disk_of self.new) }
         ensures plan { IsNumbered (plan_of self.old) (plan_of self.new) (IsErrOf result Refused) }
     {
         if self.plan.next() {
@@ -262,5 +267,5 @@ impl FileTree for MemoryTree {
         Ok(self.store.snaps.numbers()?)
     }
 
-    ghost sound = { λ t s. tree_sound s };
+    ghost sound = { λ s t. tree_sound s };
 }

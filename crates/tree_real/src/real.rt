@@ -1,6 +1,7 @@
-ghost use Rattle.std.specs.Prelude.{◌≡◌, ◌≤◌, [], false, Ok, Err, if◌then◌else◌, length, is_err, IfOk, IsOk, IsErr, IsTrue};
+ghost use Rattle.std.specs.Prelude.{◌≡◌, ◌≤◌, [], false, Ok, Err, if◌then◌else◌, length, is_err, IfOk, IsOk, IsErr, IsErrOf, IsTrue};
 ghost use Rattle.tree_api.specs.declared.tree.TreeError.TheVariants.{Refused};
-ghost use Rattle.tree_api.specs.Disk.{Quiet, Looked, CountsSync};
+ghost use Rattle.fault_count.specs.Counted.{one_more};
+ghost use Rattle.tree_api.specs.Counts.{Counts as TreeCounts};
 ghost use Rattle.tree_real.specs.Counts.{was_refused, counted, changed, looked, synced, untold};
 
 use crate::layout::Layout;
@@ -37,7 +38,7 @@ impl<R: Files> Model for RealTree<R> {
 
     ghost view = { λ t. record { faults = t.faults; syncs = t.syncs; looks = t.looks; unsure = t.unsure } };
 
-    ghost invariant = { λ t. (t.faults < 2 ^ 64) × (t.looks < 2 ^ 64) };
+    ghost invariant = { λ t. (t.faults < 2 ^ 64) × (t.looks < 2 ^ 64) × (t.syncs < 2 ^ 64) };
 }
 
 // Makes the folders where they are missing, and ends a move that was cut off.
@@ -81,7 +82,7 @@ impl<R: Files + AllocGlobal + Clone + Drop> RealTree<R> {
     #[tactic(auto, using(crate::proofs::Quiet::rules))]
     fn counted<T>(&mut self, done: Result<T, TreeError>) -> Result<T, TreeError>
         ensures same { result ≡ done }
-        ensures counts { Quiet (untold self.old) (untold self.new) result }
+        ensures counts { TreeCounts (IsErrOf result Refused) 0 0 (untold self.old) (untold self.new) }
         ensures exact { self.new ≡ counted self.old (was_refused result) }
     {
         if is_refused(&done) {
@@ -93,7 +94,7 @@ impl<R: Files + AllocGlobal + Clone + Drop> RealTree<R> {
     // The same after a look.
     #[tactic(auto, using(crate::proofs::Quiet::rules))]
     fn looked<T>(&mut self, done: Result<T, TreeError>) -> Result<T, TreeError>
-        ensures counts { Looked ⊥ (untold self.old) (untold self.new) result }
+        ensures counts { TreeCounts (IsErrOf result Refused) 1 0 (untold self.old) (untold self.new) }
         ensures exact { self.new ≡ looked self.old (was_refused result) }
     {
         self.looks.rise();
@@ -103,7 +104,7 @@ impl<R: Files + AllocGlobal + Clone + Drop> RealTree<R> {
     // The same after a change.
     fn changed(&mut self, done: Result<(), TreeError>) -> Result<(), TreeError>
         ensures same { result ≡ done }
-        ensures counts { Quiet (untold self.old) (untold self.new) result }
+        ensures counts { TreeCounts (IsErrOf result Refused) 0 0 (untold self.old) (untold self.new) }
         ensures exact { self.new ≡ changed self.old (was_refused result) }
     {
         self.unsure = self.unsure || is_refused(&done);
@@ -112,14 +113,14 @@ impl<R: Files + AllocGlobal + Clone + Drop> RealTree<R> {
 }
 
 impl<R: Files + AllocGlobal + Clone + Drop> FileTree for RealTree<R> {
-    ghost tells = { ⊥ };
+    ghost tells = { λ t. ⊥ };
 
     ghost disk = { untold };
 
-    ghost sound = { λ told t. absurd told };
+    ghost sound = { λ t told. absurd told };
 
     fn stat(&mut self, path: &TreePath) -> Result<Option<Stat>, TreeError>
-        ensures counts { Looked ⊥ (untold self.old) (untold self.new) result }
+        ensures counts { TreeCounts (IsErrOf result Refused) 1 0 (untold self.old) (untold self.new) }
         ensures exact { self.new ≡ looked self.old (was_refused result) }
     {
         let done = nodes::stat(&self.rt, &self.layout, path);
@@ -127,7 +128,7 @@ impl<R: Files + AllocGlobal + Clone + Drop> FileTree for RealTree<R> {
     }
 
     fn list(&mut self, dir: &TreePath) -> Result<Vec<Entry>, TreeError>
-        ensures counts { Looked ⊥ (untold self.old) (untold self.new) result }
+        ensures counts { TreeCounts (IsErrOf result Refused) 1 0 (untold self.old) (untold self.new) }
         ensures exact { self.new ≡ looked self.old (was_refused result) }
     {
         let done = nodes::list(&self.rt, &self.layout, dir);
@@ -135,7 +136,7 @@ impl<R: Files + AllocGlobal + Clone + Drop> FileTree for RealTree<R> {
     }
 
     fn make_dir(&mut self, path: &TreePath) -> Result<(), TreeError>
-        ensures counts { Quiet (untold self.old) (untold self.new) result }
+        ensures counts { TreeCounts (IsErrOf result Refused) 0 0 (untold self.old) (untold self.new) }
         ensures exact { self.new ≡ changed self.old (was_refused result) }
     {
         let done = nodes::make_dir(&self.rt, &self.layout, path);
@@ -143,7 +144,7 @@ impl<R: Files + AllocGlobal + Clone + Drop> FileTree for RealTree<R> {
     }
 
     fn create(&mut self, path: &TreePath) -> Result<(), TreeError>
-        ensures counts { Quiet (untold self.old) (untold self.new) result }
+        ensures counts { TreeCounts (IsErrOf result Refused) 0 0 (untold self.old) (untold self.new) }
         ensures exact { self.new ≡ changed self.old (was_refused result) }
     {
         let done = nodes::create(&self.rt, &self.layout, path);
@@ -151,7 +152,7 @@ impl<R: Files + AllocGlobal + Clone + Drop> FileTree for RealTree<R> {
     }
 
     fn remove_file(&mut self, path: &TreePath) -> Result<(), TreeError>
-        ensures counts { Quiet (untold self.old) (untold self.new) result }
+        ensures counts { TreeCounts (IsErrOf result Refused) 0 0 (untold self.old) (untold self.new) }
         ensures exact { self.new ≡ changed self.old (was_refused result) }
     {
         let done = nodes::remove_file(&self.rt, &self.layout, path);
@@ -159,7 +160,7 @@ impl<R: Files + AllocGlobal + Clone + Drop> FileTree for RealTree<R> {
     }
 
     fn remove_dir(&mut self, path: &TreePath) -> Result<(), TreeError>
-        ensures counts { Quiet (untold self.old) (untold self.new) result }
+        ensures counts { TreeCounts (IsErrOf result Refused) 0 0 (untold self.old) (untold self.new) }
         ensures exact { self.new ≡ changed self.old (was_refused result) }
     {
         let done = nodes::remove_dir(&self.rt, &self.layout, path);
@@ -167,7 +168,7 @@ impl<R: Files + AllocGlobal + Clone + Drop> FileTree for RealTree<R> {
     }
 
     fn rename(&mut self, from: &TreePath, to: &TreePath) -> Result<(), TreeError>
-        ensures counts { Quiet (untold self.old) (untold self.new) result }
+        ensures counts { TreeCounts (IsErrOf result Refused) 0 0 (untold self.old) (untold self.new) }
         ensures exact { self.new ≡ changed self.old (was_refused result) }
     {
         let done = moves::rename(&self.rt, &self.layout, from, to);
@@ -176,7 +177,7 @@ impl<R: Files + AllocGlobal + Clone + Drop> FileTree for RealTree<R> {
 
     fn read_at(&mut self, path: &TreePath, at: u64, into: &mut [u8]) -> Result<usize, TreeError>
         ensures within { IfOk result (λ n. n ≤ length into.old) }
-        ensures counts { Quiet (untold self.old) (untold self.new) result }
+        ensures counts { TreeCounts (IsErrOf result Refused) 0 0 (untold self.old) (untold self.new) }
         ensures exact { self.new ≡ counted self.old (was_refused result) }
     {
         let done = nodes::read_at(&self.rt, &self.layout, path, at, into);
@@ -184,7 +185,7 @@ impl<R: Files + AllocGlobal + Clone + Drop> FileTree for RealTree<R> {
     }
 
     fn write_at(&mut self, path: &TreePath, at: u64, bytes: &[u8]) -> Result<(), TreeError>
-        ensures counts { Quiet (untold self.old) (untold self.new) result }
+        ensures counts { TreeCounts (IsErrOf result Refused) 0 0 (untold self.old) (untold self.new) }
         ensures exact { self.new ≡ changed self.old (was_refused result) }
     {
         let done = nodes::write_at(&self.rt, &self.layout, path, at, bytes);
@@ -192,7 +193,7 @@ impl<R: Files + AllocGlobal + Clone + Drop> FileTree for RealTree<R> {
     }
 
     fn set_len(&mut self, path: &TreePath, len: u64) -> Result<(), TreeError>
-        ensures counts { Quiet (untold self.old) (untold self.new) result }
+        ensures counts { TreeCounts (IsErrOf result Refused) 0 0 (untold self.old) (untold self.new) }
         ensures exact { self.new ≡ changed self.old (was_refused result) }
     {
         let done = nodes::set_len(&self.rt, &self.layout, path, len);
@@ -200,7 +201,7 @@ impl<R: Files + AllocGlobal + Clone + Drop> FileTree for RealTree<R> {
     }
 
     fn attr(&mut self, path: &TreePath, name: &[u8]) -> Result<Option<Vec<u8>>, TreeError>
-        ensures counts { Quiet (untold self.old) (untold self.new) result }
+        ensures counts { TreeCounts (IsErrOf result Refused) 0 0 (untold self.old) (untold self.new) }
         ensures exact { self.new ≡ counted self.old (was_refused result) }
     {
         let done = attrs::attr(&self.rt, &self.layout, path, name);
@@ -208,7 +209,7 @@ impl<R: Files + AllocGlobal + Clone + Drop> FileTree for RealTree<R> {
     }
 
     fn set_attr(&mut self, path: &TreePath, name: &[u8], value: &[u8]) -> Result<(), TreeError>
-        ensures counts { Quiet (untold self.old) (untold self.new) result }
+        ensures counts { TreeCounts (IsErrOf result Refused) 0 0 (untold self.old) (untold self.new) }
         ensures exact { self.new ≡ changed self.old (was_refused result) }
     {
         let done = attrs::set_attr(&self.rt, &self.layout, path, name, value);
@@ -216,7 +217,7 @@ impl<R: Files + AllocGlobal + Clone + Drop> FileTree for RealTree<R> {
     }
 
     fn remove_attr(&mut self, path: &TreePath, name: &[u8]) -> Result<(), TreeError>
-        ensures counts { Quiet (untold self.old) (untold self.new) result }
+        ensures counts { TreeCounts (IsErrOf result Refused) 0 0 (untold self.old) (untold self.new) }
         ensures exact { self.new ≡ changed self.old (was_refused result) }
     {
         let done = attrs::remove_attr(&self.rt, &self.layout, path, name);
@@ -224,7 +225,7 @@ impl<R: Files + AllocGlobal + Clone + Drop> FileTree for RealTree<R> {
     }
 
     fn attrs(&mut self, path: &TreePath) -> Result<Vec<AttrName>, TreeError>
-        ensures counts { Quiet (untold self.old) (untold self.new) result }
+        ensures counts { TreeCounts (IsErrOf result Refused) 0 0 (untold self.old) (untold self.new) }
         ensures exact { self.new ≡ counted self.old (was_refused result) }
     {
         let done = attrs::names(&self.rt, &self.layout, path);
@@ -232,7 +233,7 @@ impl<R: Files + AllocGlobal + Clone + Drop> FileTree for RealTree<R> {
     }
 
     fn sync_file(&mut self, path: &TreePath) -> Result<(), TreeError>
-        ensures counts { Quiet (untold self.old) (untold self.new) result }
+        ensures counts { TreeCounts (IsErrOf result Refused) 0 0 (untold self.old) (untold self.new) }
         ensures exact { self.new ≡ changed self.old (was_refused result) }
         ensures unsure { IsTrue self.old.unsure → result ≡ Err Refused }
     {
@@ -245,7 +246,7 @@ impl<R: Files + AllocGlobal + Clone + Drop> FileTree for RealTree<R> {
     }
 
     fn sync_names(&mut self) -> Result<(), TreeError>
-        ensures counts { Quiet (untold self.old) (untold self.new) result }
+        ensures counts { TreeCounts (IsErrOf result Refused) 0 0 (untold self.old) (untold self.new) }
         ensures exact { self.new ≡ changed self.old (was_refused result) }
         ensures unsure { result ≡ (if self.old.unsure then Err Refused else Ok tt) }
     {
@@ -256,15 +257,17 @@ impl<R: Files + AllocGlobal + Clone + Drop> FileTree for RealTree<R> {
     }
 
     fn sync_all(&mut self) -> Result<(), Failed>
-        ensures counts { CountsSync (untold self.old) (untold self.new) (IsErr result) }
+        ensures sync { (untold self.new).syncs ≡ one_more (untold self.old).syncs }
+        ensures counts { TreeCounts (IsErr result) 0 1 (untold self.old) (untold self.new) }
         ensures exact { self.new ≡ synced self.old (is_err result) }
         ensures unsure { is_err result ≡ self.old.unsure }
     {
         self.syncs.rise();
-        match self.sync_names() {
-            Ok(()) => Ok(()),
-            Err(_) => Err(Failed),
+        if self.unsure {
+            self.faults.rise();
+            return Err(Failed);
         }
+        Ok(())
     }
 
     fn checkpoints(&self) -> bool {
@@ -272,7 +275,7 @@ impl<R: Files + AllocGlobal + Clone + Drop> FileTree for RealTree<R> {
     }
 
     fn snapshot(&mut self, seq: u64) -> Result<(), TreeError>
-        ensures counts { Quiet (untold self.old) (untold self.new) result }
+        ensures counts { TreeCounts (IsErrOf result Refused) 0 0 (untold self.old) (untold self.new) }
         ensures refused { result ≡ Err Refused }
         ensures exact { self.new ≡ counted self.old (was_refused result) }
     {
@@ -280,7 +283,7 @@ impl<R: Files + AllocGlobal + Clone + Drop> FileTree for RealTree<R> {
     }
 
     fn rollback(&mut self, seq: u64) -> Result<(), TreeError>
-        ensures counts { Quiet (untold self.old) (untold self.new) result }
+        ensures counts { TreeCounts (IsErrOf result Refused) 0 0 (untold self.old) (untold self.new) }
         ensures refused { result ≡ Err Refused }
         ensures exact { self.new ≡ counted self.old (was_refused result) }
     {
@@ -288,7 +291,7 @@ impl<R: Files + AllocGlobal + Clone + Drop> FileTree for RealTree<R> {
     }
 
     fn drop_snapshot(&mut self, seq: u64) -> Result<(), TreeError>
-        ensures counts { Quiet (untold self.old) (untold self.new) result }
+        ensures counts { TreeCounts (IsErrOf result Refused) 0 0 (untold self.old) (untold self.new) }
         ensures refused { result ≡ Err Refused }
         ensures exact { self.new ≡ counted self.old (was_refused result) }
     {
@@ -296,7 +299,7 @@ impl<R: Files + AllocGlobal + Clone + Drop> FileTree for RealTree<R> {
     }
 
     fn snapshots(&mut self) -> Result<Vec<u64>, TreeError>
-        ensures counts { Quiet (untold self.old) (untold self.new) result }
+        ensures counts { TreeCounts (IsErrOf result Refused) 0 0 (untold self.old) (untold self.new) }
         ensures exact { self.new ≡ self.old }
         ensures none { IfOk result (λ ks. ks.items ≡ []) }
         ensures ok { IsOk result }

@@ -27,31 +27,31 @@ fn open<R: Abort + Files + AllocGlobal + Clone + Drop>(rt: &R, root: &str) -> Re
 }
 
 fn create<T: FileTree>(rt: &(impl Abort + AllocGlobal), tree: &mut T, steps: &str)
-    requires { T.tells → ⊥ }
+    requires { T.tells tree.old → ⊥ }
 {
     assert_eq!(rt; tree.create(&path(rt, steps)), Ok(()));
 }
 
 fn make_dir<T: FileTree>(rt: &(impl Abort + AllocGlobal), tree: &mut T, steps: &str)
-    requires { T.tells → ⊥ }
+    requires { T.tells tree.old → ⊥ }
 {
     assert_eq!(rt; tree.make_dir(&path(rt, steps)), Ok(()));
 }
 
 fn rename<T: FileTree>(rt: &(impl Abort + AllocGlobal), tree: &mut T, from: &str, to: &str)
-    requires { T.tells → ⊥ }
+    requires { T.tells tree.old → ⊥ }
 {
     assert_eq!(rt; tree.rename(&path(rt, from), &path(rt, to)), Ok(()));
 }
 
 fn remove_file<T: FileTree>(rt: &(impl Abort + AllocGlobal), tree: &mut T, steps: &str)
-    requires { T.tells → ⊥ }
+    requires { T.tells tree.old → ⊥ }
 {
     assert_eq!(rt; tree.remove_file(&path(rt, steps)), Ok(()));
 }
 
 fn remove_dir<T: FileTree>(rt: &(impl Abort + AllocGlobal), tree: &mut T, steps: &str)
-    requires { T.tells → ⊥ }
+    requires { T.tells tree.old → ⊥ }
 {
     let dir = path(rt, steps);
     if dir.steps() > 0 {
@@ -66,7 +66,7 @@ fn write<T: FileTree>(
     at: u32,
     bytes: &[u8; 4],
 )
-    requires { T.tells → ⊥ }
+    requires { T.tells tree.old → ⊥ }
 {
     assert_eq!(rt;
         tree.write_at(&path(rt, steps), u64::from(at), bytes),
@@ -76,7 +76,7 @@ fn write<T: FileTree>(
 
 // Eight bytes of 9, over which a file was read from a place on.
 fn read<T: FileTree>(rt: &(impl Abort + AllocGlobal), tree: &mut T, steps: &str, at: u32) -> [u8; 8]
-    requires { T.tells → ⊥ }
+    requires { T.tells tree.old → ⊥ }
 {
     let mut bytes = [9; 8];
     assert!(rt;
@@ -87,20 +87,20 @@ fn read<T: FileTree>(rt: &(impl Abort + AllocGlobal), tree: &mut T, steps: &str,
 }
 
 fn set_len<T: FileTree>(rt: &(impl Abort + AllocGlobal), tree: &mut T, steps: &str, len: u32)
-    requires { T.tells → ⊥ }
+    requires { T.tells tree.old → ⊥ }
 {
     assert_eq!(rt; tree.set_len(&path(rt, steps), u64::from(len)), Ok(()));
 }
 
 fn sync_file<T: FileTree>(rt: &(impl Abort + AllocGlobal), tree: &mut T, steps: &str)
-    requires { T.tells → ⊥ }
+    requires { T.tells tree.old → ⊥ }
 {
     assert_eq!(rt; tree.sync_file(&path(rt, steps)), Ok(()));
 }
 
 // A file's length, or none where nothing stands.
 fn len<T: FileTree>(rt: &(impl Abort + AllocGlobal), tree: &mut T, steps: &str) -> Option<u64>
-    requires { T.tells → ⊥ }
+    requires { T.tells tree.old → ⊥ }
 {
     match tree.stat(&path(rt, steps)).expect(rt, "a look") {
         Some(
@@ -120,7 +120,7 @@ fn len<T: FileTree>(rt: &(impl Abort + AllocGlobal), tree: &mut T, steps: &str) 
 }
 
 fn entries<T: FileTree>(rt: &(impl Abort + AllocGlobal), tree: &mut T, dir: &TreePath) -> Vec<Entry>
-    requires { T.tells → ⊥ }
+    requires { T.tells tree.old → ⊥ }
 {
     tree.list(dir).expect(rt, "a directory")
 }
@@ -140,13 +140,13 @@ fn set_attr<T: FileTree>(
     name: &[u8],
     value: &[u8],
 )
-    requires { T.tells → ⊥ }
+    requires { T.tells tree.old → ⊥ }
 {
     assert_eq!(rt; tree.set_attr(&path(rt, steps), name, value), Ok(()));
 }
 
 fn remove_attr<T: FileTree>(rt: &(impl Abort + AllocGlobal), tree: &mut T, steps: &str, name: &[u8])
-    requires { T.tells → ⊥ }
+    requires { T.tells tree.old → ⊥ }
 {
     assert_eq!(rt; tree.remove_attr(&path(rt, steps), name), Ok(()));
 }
@@ -158,7 +158,7 @@ fn has_attr<T: FileTree>(
     name: &[u8],
     value: &[u8],
 ) -> bool
-    requires { T.tells → ⊥ }
+    requires { T.tells tree.old → ⊥ }
 {
     match tree.attr(&path(rt, steps), name).expect(rt, "a node") {
         Some(found) => found.as_slice() == value,
@@ -167,7 +167,7 @@ fn has_attr<T: FileTree>(
 }
 
 fn attrs<T: FileTree>(rt: &(impl Abort + AllocGlobal), tree: &mut T, steps: &str) -> Vec<AttrName>
-    requires { T.tells → ⊥ }
+    requires { T.tells tree.old → ⊥ }
 {
     tree.attrs(&path(rt, steps)).expect(rt, "a node")
 }

@@ -21,5 +21,5 @@ empty_dir now was d o es same seen is listing none =
 pub returns : goal.returns
 returns c = λ yes.
     let v = c.in_ok-entries.entries in
-    empty_dir (disk_of c.list.new.self).tree (disk_of c.seen.new.tree).tree c.args.dir.now c.in_ok-seen.field-0 v.items (c.list.ensures.stays tt).tree c.in_ok-seen.ensures.kind
+    empty_dir (disk_of c.list.new.self).tree (disk_of c.seen.new.tree).tree c.args.dir.now c.in_ok-seen.field-0 v.items (c.list.ensures.still tt).stays.tree c.in_ok-seen.ensures.kind
     (c.in-Some-Dir.is ∙ ap Some c.in-Some-Dir.field-0-is) (c.in_ok-entries.ensures.entries tt) (sym v.ok.0 ∙ eqb-true v.len 0 (sym c.is_empty.ensures ∙ yes))

@@ -17,4 +17,4 @@ seen_is : (now old : Tree) (p : Path) (o : Option Stat) (st : Stat) → now ≡ 
 seen_is now old p o st same s is = subst (λ (t : Tree). IsSeen t p (Some st.kind)) (sym same) (seen_at old p st (old.at p) refl (subst (IsStat (look old p)) is s))
 
 pub returns-in-Some-clause-kind : goal.returns-in-Some-clause-kind
-returns-in-Some-clause-kind c = seen_is _ _ c.args.path.now c.in_ok-stat.field-0 c.in-Some.stat (c.in_ok-stat.ensures.stays tt).tree (c.in_ok-stat.ensures.answer tt) c.in-Some.is
+returns-in-Some-clause-kind c = seen_is _ _ c.args.path.now c.in_ok-stat.field-0 c.in-Some.stat (c.in_ok-stat.ensures.still tt).stays.tree (c.in_ok-stat.ensures.answer tt) c.in-Some.is

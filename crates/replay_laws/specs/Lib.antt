@@ -1,0 +1,5 @@
+pub mod Examples
+pub mod Keeps
+pub mod Places
+pub mod Replay
+pub mod Settled

@@ -1,0 +1,6 @@
+pub mod Eight
+pub mod History
+pub mod Live
+pub mod Positions
+pub mod Slots
+pub mod Weaker
