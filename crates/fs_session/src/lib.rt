@@ -1,6 +1,7 @@
 //! What lines of a script queue and answer, from a store on: definitions, and a law as the contract of a function that
 //! does nothing.
 #![tactic(auto)]
+
 ghost use Rattle.std.specs.Prelude.{◌≡◌, ◌+◌, ◌≤◌, ◌++◌, ℕ, List, length, Contains};
 ghost use Rattle.fs_script.specs.declared.answer.Answer.TheVariants.{Drained};
 ghost use Rattle.fs_script.specs.declared.statement.Line.{Line};
