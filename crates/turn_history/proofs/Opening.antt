@@ -114,7 +114,7 @@ module _ {C V : Type 0} (group : C → GroupId) (base : ℕ) (ts : List (Txn C V
           here = opened (s.started - base) s.slots i (Some slot) lt is opens.open_ones
 
           left : o.next < length (txn ts o.index).ops
-          left = subst (λ n. slot.next < n) (opens.each i slot is).ops_are chain.well_formed.unfinished i slot is
+          left = subst (λ n. slot.next < n) (opens.each i slot is).ops_are (chain.well_formed.unfinished i slot is)
 
           which : (b : Bool) → AreOpen ts (s.started - base) (opens_of base (take i s.slots) ++ (open_of base (cond b (Some (record slot { next = slot.next + 1 })) None) ∷ opens_of base (drop (suc i) s.slots)))
           which false = frees ts (s.started - base) (opens_of base (take i s.slots)) (opens_of base (drop (suc i) s.slots)) o here
@@ -180,7 +180,7 @@ module _ {C V : Type 0} (raise : ℕ → V → V) (origin : C → V) (group : C 
       here = subst (λ l. AreOpen ts (s.started - base) l) was opens.open_ones
 
       left : o.next < length (txn ts o.index).ops
-      left = subst (λ n. slot.next < n) match.ops_are chain.well_formed.unfinished i slot is
+      left = subst (λ n. slot.next < n) match.ops_are (chain.well_formed.unfinished i slot is)
 
       own : DoesOp (line raise origin ts (s.started - base)) (txn ts o.index).names (count ts o.index + o.next) old new guards guards_now passed passed_now
       own = record {
