@@ -6,25 +6,27 @@
 mod command;
 mod hash_order;
 mod page;
-mod refusal;
 mod run;
 mod status;
 mod step;
+mod stop;
 mod store;
 #[cfg(test)]
 mod tests;
 
 use command::read_command;
 use dev_edge::{EdgeFault, RealDevice};
-use io_edge::{RealSink, RealSource, Text, write_all};
-use run::{DEVICE_LINE, MEMORY_LINE, USAGE_LINE, run};
+use io_edge::{RealSink, RealSource, Text};
+use run::run;
 use status::Status;
 use std::alloc::AllocError;
 use std::fs::Files;
 use std::io::ErrorKind;
+use std::os::unix::fs::FileExt;
 use std::process::ExitCode;
 use std::rt::Env;
 use std::{env, io};
+use stop::{Stop, end};
 
 /// The words of the command line, behind ROOT, which isn't used yet.
 #[derive(Drop)]
@@ -49,31 +51,24 @@ fn read_arguments(rt: &(impl Env + AllocGlobal)) -> io::Result<Option<Arguments>
 /// Runs the command of the command line over standard input and output and the file of the journal.
 fn status_of<R: Env + AllocGlobal + Files + Input + Print + Clone + Drop>(
     rt: &R,
-) -> Result<Status, AllocError> {
+) -> Result<Status, AllocError>
+where
+    R::File: FileExt,
+{
     let mut source = RealSource::new(rt.clone()?);
     let mut sink = RealSink::new(rt.clone()?);
     let arguments = match read_arguments(rt) {
         Ok(Some(arguments)) if read_command(&arguments.words).is_some() => arguments,
         Err(error) if error.kind() == ErrorKind::OutOfMemory => {
-            let _ = write_all(&mut sink, MEMORY_LINE.as_bytes());
-            return Ok(Status::MEMORY);
+            return Ok(end(rt.alloc(), &mut sink, Stop::Memory));
         }
         // Words that aren't text are no command. No file is made for words that aren't one.
-        Ok(_) | Err(_) => {
-            let _ = write_all(&mut sink, USAGE_LINE.as_bytes());
-            return Ok(Status::USAGE);
-        }
+        Ok(_) | Err(_) => return Ok(end(rt.alloc(), &mut sink, Stop::Usage)),
     };
     let mut device = match RealDevice::at(rt.clone()?, arguments.journal.as_str()) {
         Ok(device) => device,
-        Err(EdgeFault::Outside) => {
-            let _ = write_all(&mut sink, DEVICE_LINE.as_bytes());
-            return Ok(Status::DEVICE);
-        }
-        Err(EdgeFault::Memory) => {
-            let _ = write_all(&mut sink, MEMORY_LINE.as_bytes());
-            return Ok(Status::MEMORY);
-        }
+        Err(EdgeFault::Outside) => return Ok(end(rt.alloc(), &mut sink, Stop::Device)),
+        Err(EdgeFault::Memory) => return Ok(end(rt.alloc(), &mut sink, Stop::Memory)),
     };
     Ok(run(
         rt.alloc(),

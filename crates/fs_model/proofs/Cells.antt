@@ -8,7 +8,7 @@ use Rattle.std.specs.FinMap as map
 use Rattle.fs_names.specs.declared.coll.Coll.{Coll}
 use Rattle.fs_names.specs.declared.oid.Oid.{Oid}
 use Rattle.fs_names.specs.Order.{oid_cmp, coll_cmp, oid_cmp_total, coll_cmp_total, oid_cmp-IsAntisymmetric, coll_cmp-IsAntisymmetric}
-use Rattle.fs_model.specs.Objects.{Shelf, Objects, Object, look, on_shelf, shelved, with_object}
+use Rattle.fs_model.specs.Objects.{Shelf, Objects, Object, look, on_shelf, shelved, with_object, without_object}
 
 abbrev pub same_coll : Coll → Coll → Bool
 same_coll = eq_by_cmp coll_cmp
@@ -72,3 +72,12 @@ pub look-with_object : (O : Objects) (c : Coll) (o : Oid) (x : Object) (q : Coll
     → look (with_object O c o x) q p ≡ cond (map.contains_key O c && (same_coll q c && same_oid p o)) (Some x) (look O q p)
 unfolding with_object
 look-with_object O c o x q p = look_shelved O c o (Some x) _ (λ s p. map.get-insert oid_cmp_total s o x p) _ refl q p
+
+pub there-without_object : (O : Objects) (c : Coll) (o : Oid) (q : Coll) → map.contains_key (without_object O c o) q ≡ map.contains_key O q
+unfolding without_object
+there-without_object O c o q = there_shelved O c _ _ refl q
+
+pub look-without_object : (O : Objects) (c : Coll) (o : Oid) (q : Coll) (p : Oid)
+    → look (without_object O c o) q p ≡ cond (map.contains_key O c && (same_coll q c && same_oid p o)) None (look O q p)
+unfolding without_object
+look-without_object O c o q p = look_shelved O c o None _ (λ s p. map.get-remove oid_cmp_total s o p) _ refl q p

@@ -1,5 +1,5 @@
 -- The collections after operations.
-use Rattle.std.proofs.Common.{◌≡◌, Bool, true, false, cond, ◌||◌, Option, Some, is_some, List, [], ◌∷◌, map as map_list, refl, sym, ap, ◌∙◌}
+use Rattle.std.proofs.Common.{◌≡◌, Bool, true, false, cond, not, ◌&&◌, ◌||◌, Option, None, Some, is_some, List, [], ◌∷◌, map as map_list, refl, sym, ap, ◌∙◌}
 use Rattle.std.specs.FinMap as map
 use Rattle.std.specs.FinMap.Entries.{is_some-find}
 use Rattle.std.specs.FinSet as set
@@ -8,12 +8,12 @@ use Rattle.std.specs.Cmp.{eq_by_cmp_equiv}
 use Rattle.fs_names.specs.declared.coll.Coll.{Coll}
 use Rattle.fs_names.specs.Order.{coll_cmp, coll_cmp_total, coll_cmp-IsAntisymmetric}
 use Rattle.fs_model.specs.declared.op.Op.{Op}
-use Rattle.fs_model.specs.declared.op.Op.TheVariants.{MkColl, Touch, Write}
-use Rattle.fs_model.specs.Objects.{Objects, Shelf}
+use Rattle.fs_model.specs.declared.op.Op.TheVariants.{Touch, Write, Zero, Truncate, Remove, SetAttrs, RmAttr, RmAttrs, Clone, CloneRange, MoveRename, MkColl, RmColl, OmapClear, OmapSet, OmapRemove, OmapRange}
+use Rattle.fs_model.specs.Objects.{Objects, Shelf, without_object}
 use Rattle.fs_model.specs.Colls.{colls_of}
 use Rattle.fs_model.specs.Check.{op_colls, colls_after}
-use Rattle.fs_model.specs.Rows.{row, fold_ops}
-use Rattle.fs_model.proofs.Cells.{tie, there-with_object}
+use Rattle.fs_model.specs.Rows.{row, fold_ops, both_there}
+use Rattle.fs_model.proofs.Cells.{tie, there-with_object, there-without_object}
 
 pub contains-colls_of : (O : Objects) (q : Coll) → set.contains (colls_of O) q ≡ map.contains_key O q
 unfolding colls_of
@@ -46,11 +46,42 @@ made O c true e q = elim (eq_by_cmp coll_cmp q c) as (λ b. eq_by_cmp coll_cmp q
 ] refl
 made O c false e q = ap is_some (map.get-insert coll_cmp_total O c map.empty q) ∙ some_or (eq_by_cmp coll_cmp q c) _ _
 
+removed : (O : Objects) (c q : Coll) → map.contains_key (map.remove O c) q ≡ (not (eq_by_cmp coll_cmp q c) && map.contains_key O q)
+removed O c q = ap is_some (map.get-remove coll_cmp_total O c q) ∙ none_or (eq_by_cmp coll_cmp q c) (map.get O q)
+  where
+    none_or : (b : Bool) (o : Option Shelf) → is_some (cond b None o) ≡ (not b && is_some o)
+    none_or true o = refl
+    none_or false o = refl
+
+-- the same collections stay
+kept : (O P : Objects) → ((q : Coll) → map.contains_key P q ≡ map.contains_key O q) → colls_of P ≡ colls_of O
+kept O P e = alike P O e
+
+both_kept : (O P : Objects) (b : Bool) → ((q : Coll) → map.contains_key P q ≡ map.contains_key O q) → (q : Coll) → map.contains_key (cond b P O) q ≡ map.contains_key O q
+both_kept O P true e q = e q
+both_kept O P false e q = refl
+
 pub row-colls : (O : Objects) (op : Op) → colls_of (row O op) ≡ op_colls (colls_of O) op
 row-colls O (MkColl c) = set.same_set coll_cmp_total coll_cmp-IsAntisymmetric _ _ (λ q.
     contains-colls_of _ q ∙ made O c _ refl q ∙ ap (λ a. eq_by_cmp coll_cmp q c || a) (sym (contains-colls_of O q)) ∙ sym (set.contains-insert coll_cmp_total (colls_of O) c q))
-row-colls O (Touch c o) = alike _ O (λ q. there-with_object O c o _ q)
-row-colls O (Write c o at bytes) = alike _ O (λ q. there-with_object O c o _ q)
+row-colls O (RmColl c) = set.same_set coll_cmp_total coll_cmp-IsAntisymmetric _ _ (λ q.
+    contains-colls_of _ q ∙ removed O c q ∙ ap (λ a. not (eq_by_cmp coll_cmp q c) && a) (sym (contains-colls_of O q)) ∙ sym (set.contains-remove coll_cmp_total (colls_of O) c q))
+row-colls O (Touch c o) = kept O _ (λ q. there-with_object O c o _ q)
+row-colls O (Write c o at bytes) = kept O _ (λ q. there-with_object O c o _ q)
+row-colls O (Zero c o at len) = kept O _ (λ q. there-with_object O c o _ q)
+row-colls O (Truncate c o len) = kept O _ (λ q. there-with_object O c o _ q)
+row-colls O (Remove c o) = kept O _ (λ q. there-without_object O c o q)
+row-colls O (SetAttrs c o pairs) = kept O _ (λ q. there-with_object O c o _ q)
+row-colls O (RmAttr c o name) = kept O _ (λ q. there-with_object O c o _ q)
+row-colls O (RmAttrs c o) = kept O _ (λ q. there-with_object O c o _ q)
+row-colls O (Clone c o c2 o2) = kept O _ (both_kept O _ (both_there O c c2) (λ q. there-with_object O c2 o2 _ q))
+row-colls O (CloneRange c o c2 o2 from len to) = kept O _ (both_kept O _ (both_there O c c2) (λ q. there-with_object O c2 o2 _ q))
+row-colls O (MoveRename c o c2 o2) =
+    kept O _ (both_kept O _ (both_there O c c2) (λ q. there-with_object (without_object O c o) c2 o2 _ q ∙ there-without_object O c o q))
+row-colls O (OmapClear c o) = kept O _ (λ q. there-with_object O c o _ q)
+row-colls O (OmapSet c o header pairs) = kept O _ (λ q. there-with_object O c o _ q)
+row-colls O (OmapRemove c o keys) = kept O _ (λ q. there-with_object O c o _ q)
+row-colls O (OmapRange c o from to) = kept O _ (λ q. there-with_object O c o _ q)
 
 pub fold-colls : (O : Objects) (ops : List Op) → colls_of (fold_ops O ops) ≡ colls_after (colls_of O) ops
 fold-colls O [] = refl

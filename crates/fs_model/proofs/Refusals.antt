@@ -5,18 +5,12 @@ use Rattle.std.proofs.lemmas.Option.{slice_get-get_or, some_pair_parts}
 use Rattle.std.proofs.lemmas.List.{take_more, drop_more}
 use Rattle.std.proofs.lemmas.Bool.Decides.{nat_tests}
 use Rattle.std.specs.List.{AllByRecursion}
-use Rattle.std.specs.FinSet as set
 use Rattle.std.proofs.lemmas.List.Sums.{fold_push}
 use Rattle.fs_model.specs.declared.op.Op.{Op}
 use Rattle.fs_model.specs.declared.op.Why.{Why}
-use Rattle.fs_model.specs.declared.op.Why.TheVariants.{Empty, NoCollection, CollectionExists, TooBig, TooMany}
-use Rattle.fs_model.specs.declared.op.Op.TheVariants.{MkColl}
-use Rattle.fs_names.specs.declared.coll.Coll.{Coll}
-use Rattle.std.specs.Ordering.{eq_by_cmp}
-use Rattle.fs_names.specs.Order.{coll_cmp, coll_cmp_total, coll_cmp-IsAntisymmetric}
-use Rattle.fs_model.proofs.Cells.{tie}
+use Rattle.fs_model.specs.declared.op.Why.TheVariants.{Empty, NoCollection, CollectionExists, SameObject, TooBig, TooMany}
 use Rattle.fs_model.specs.Colls.{CollSet}
-use Rattle.fs_model.specs.Check.{op_colls, colls_after, lacks, remakes, too_big, refusal, refusal_at, refusal_from, txn_refusal, fault_at, IsFirstFault, IsFirstRefused, IsAccepted, IsWithinLimits}
+use Rattle.fs_model.specs.Check.{op_colls, colls_after, lacks, remakes, same_object, too_big, refusal, refusal_at, refusal_from, txn_refusal, fault_at, IsFirstFault, IsFirstRefused, IsAccepted, IsWithinLimits}
 
 abbrev Refused : Type 0
 Refused = Option (ℕ × Why)
@@ -191,46 +185,21 @@ limit_by None k few e = grind (arith, nat_tests)
 pub below_limit : (S : CollSet) (k : ℕ) (op : Op) → k ≤ 4096 → refusal_at S k op ≡ None → k + 1 ≤ 4096
 below_limit S k op few e = limit_by (refusal S op) k few e
 
--- what an accepted operation made is taken back
-remove-insert : (X : CollSet) (c : Coll) → set.contains X c ≡ false → set.remove (set.insert X c) c ≡ X
-remove-insert X c none = set.same_set coll_cmp_total coll_cmp-IsAntisymmetric _ _ (λ q.
-    set.contains-remove coll_cmp_total (set.insert X c) c q
-    ∙ ap (λ a. not (eq_by_cmp coll_cmp q c) && a) (set.contains-insert coll_cmp_total X c q)
-    ∙ elim (eq_by_cmp coll_cmp q c) as (λ b. eq_by_cmp coll_cmp q c ≡ b → (not b && (b || set.contains X q)) ≡ set.contains X q) [
-      | true ↦ λ t. sym none ∙ ap (set.contains X) (sym (coll_cmp-IsAntisymmetric q c (tie _ t)))
-      | false ↦ λ t. refl
-    ] refl)
-
-lacked : (b : Bool) (other : Option Why) (r : Option Why) → option_or (cond b (Some CollectionExists) other) r ≡ None → b ≡ false
-lacked true other r e = absurd (cc)
-lacked false other r e = refl
-
-pub unmade : (S before : CollSet) (ops : List Op) (i : ℕ) (op : Op) (c : Coll) → 0 < i → i ≤ length ops → op ≡ get_or ops (i - 1) op → op ≡ MkColl c
-    → refusal_from S 0 ops ≡ None → before ≡ colls_after S (take i ops) → set.remove before c ≡ colls_after S (take (i - 1) ops)
-unmade S before ops i op c some within is make e so =
-    let X = colls_after S (take (i - 1) ops) in
-    let place : (i - 1) + 1 ≡ i = omega arith in
-    let here : refusal_at X (i - 1) op ≡ None =
-    sym (ap (option_and_then (refusal_at X (i - 1))) (slice_get-get_or ops (i - 1) op (omega arith) ∙ ap Some (sym is)))
-    ∙ fault_at-from S ops (i - 1) ∙ no_fault S 0 ops e (i - 1) in
-    let none : set.contains X c ≡ false = lacked (set.contains X c) None _ (subst (λ o. refusal_at X (i - 1) o ≡ None) make here) in
-    let step : before ≡ set.insert X c =
-    so ∙ ap (λ n. colls_after S (take n ops)) (sym place) ∙ after_more S ops (i - 1) op is (omega arith) ∙ ap (op_colls X) make in
-    ap (λ s. set.remove s c) step ∙ remove-insert X c none
-
 -- an accepted operation is within its limits
-not_big : (lacking remaking big : Bool) (r : Option Why)
-    → option_or (cond lacking (Some NoCollection) (cond remaking (Some CollectionExists) (cond big (Some TooBig) None))) r ≡ None → big ≡ false
-not_big true remaking big r e = absurd (cc)
-not_big false true big r e = absurd (cc)
-not_big false false true r e = absurd (cc)
-not_big false false false r e = refl
+fit_by : (lacking remaking same big : Bool) (r : Option Why)
+    → option_or (cond lacking (Some NoCollection) (cond remaking (Some CollectionExists) (cond same (Some SameObject) (cond big (Some TooBig) None)))) r ≡ None
+    → (same || big) ≡ false
+fit_by true remaking same big r e = absurd (cc)
+fit_by false true same big r e = absurd (cc)
+fit_by false false true big r e = absurd (cc)
+fit_by false false false true r e = absurd (cc)
+fit_by false false false false r e = refl
 
 within_from : (S : CollSet) (k : ℕ) (ops : List Op) → refusal_from S k ops ≡ None → AllByRecursion IsWithinLimits ops
 within_from S k [] e = tt
 within_from S k (op ∷ ops) e =
     let parts = none_at (refusal_at S k op) k (refusal_from (op_colls S op) (k + 1) ops) e in
-    (not_big (lacks S op) (remakes S op) (too_big op) _ parts.0, within_from (op_colls S op) (k + 1) ops parts.1)
+    (fit_by (lacks S op) (remakes S op) (same_object op) (too_big op) _ parts.0, within_from (op_colls S op) (k + 1) ops parts.1)
 
 pub within_limits : (S : CollSet) (ops : List Op) → txn_refusal S ops ≡ None → AllByRecursion IsWithinLimits ops
 within_limits S [] e = tt

@@ -44,3 +44,21 @@ pub put_bytes : (old : List ℕ) (at : ℕ) (bytes : List ℕ) → (bytes ≡ []
     → take at (lengthened old (at + length bytes)) ++ bytes ++ drop (at + length bytes) (lengthened old (at + length bytes)) ≡ overwrite old at bytes
 put_bytes old at [] some = absurd (some refl)
 put_bytes old at (b ∷ bs) some = put_over old at b bs
+
+zeros_length : (len : ℕ) → length {A = ℕ} (replicate len 0) ≡ len
+zeros_length len = grind (arith, common_steps)
+
+no_zeros : (len : ℕ) → (len ≡ 0 → ⊥) → replicate {A = ℕ} len 0 ≡ [] → ⊥
+no_zeros len some none =
+    let e : 0 ≡ len = ap (length {A = ℕ}) (sym none) ∙ zeros_length len in
+    some (sym e)
+
+-- zeros that are put over the bytes of the lengthened list
+pub put_zeros : (old : List ℕ) (at len : ℕ) → (len ≡ 0 → ⊥)
+    → take at (lengthened old (at + len)) ++ replicate len 0 ++ drop (at + len) (lengthened old (at + len)) ≡ overwrite old at (replicate len 0)
+put_zeros old at len some =
+    ap (λ (n : ℕ). take at (lengthened old (at + n)) ++ replicate len 0 ++ drop (at + n) (lengthened old (at + n))) (sym (zeros_length len))
+    ∙ put_bytes old at (replicate len 0) (no_zeros len some)
+
+pub put_none : (old : List ℕ) (at len : ℕ) → len ≡ 0 → old ≡ overwrite old at (replicate len 0)
+put_none old at len none = ap (λ (n : ℕ). overwrite old at (replicate n 0)) (sym none)

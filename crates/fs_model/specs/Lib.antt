@@ -1,5 +1,8 @@
 pub mod Objects
 pub mod Colls
+pub mod Changes
+pub mod Limits
+pub mod Named
 pub mod Rows
 pub mod Check
 pub mod Plain

@@ -9,6 +9,7 @@ use Rattle.std.specs.FinMap as map
 use Rattle.fs_names.specs.declared.oid.Oid.{Oid}
 use Rattle.fs_names.specs.declared.coll.Coll.{Coll}
 use Rattle.fs_names.specs.Order.{oid_cmp}
+pub use Rattle.fs_model.specs.declared.page.Page.{Page}
 use Rattle.fs_model.specs.Objects.{Shelf, Objects}
 
 -- no cursor is before all objects
@@ -19,14 +20,14 @@ at_or_after (Some cursor) o = is_ge (oid_cmp o cursor)
 abbrev pub from_cursor : Shelf → Option Oid → List Oid
 from_cursor s cursor = filter (at_or_after cursor) (map.keys s)
 
-pub record Page : Type 0 where
-  pub oids : List Oid
-  pub next : Option Oid
+-- the first objects of a list, at most max of them, and the one that follows them
+abbrev pub page_of : List Oid → ℕ → Page
+page_of oids max = record { oids = take max oids; next = slice_get oids max }
 
--- the first objects at or after the cursor, at most max of them, and the one that follows them; none where the collection is missing
+-- a page from the cursor on; none where the collection is missing
 abbrev pub listing : Objects → Coll → Option Oid → ℕ → Option Page
 listing O c cursor max =
-    option_map (λ s. record { oids = take max (from_cursor s cursor); next = slice_get (from_cursor s cursor) max }) (map.get O c)
+    option_map (λ s. page_of (from_cursor s cursor) max) (map.get O c)
 
 -- the objects of a collection, none where it is missing
 abbrev pub shelf_of : Objects → Coll → Shelf

@@ -66,3 +66,6 @@ shelved O c f (Some s) = map.insert O c (f s)
 
 unfoldable pub with_object : Objects → Coll → Oid → Object → Objects
 with_object O c o x = shelved O c (λ s. map.insert s o x) (map.get O c)
+
+unfoldable pub without_object : Objects → Coll → Oid → Objects
+without_object O c o = shelved O c (λ s. map.remove s o) (map.get O c)

@@ -2,7 +2,7 @@ ghost use Rattle.std.specs.Prelude.{◌≡◌, ◌<◌, ◌≤◌, ◌+◌, ◌-
 ghost use Rattle.std.specs.Ordering.{nat_cmp, eq_by_cmp, as_partial_cmp};
 ghost use Rattle.std.specs.Cmp.{eq_by_cmp_equiv, partial_equiv_from_equiv, partial_order_from_total};
 ghost use Rattle.std.specs.Cmp.Lexicographic.{slice_cmp, nat_list_cmp_total};
-ghost use Rattle.fs_model.specs.Rows.{overwrite};
+ghost use Rattle.fs_model.specs.Rows.{overwrite, resize};
 
 use std::alloc::{AllocError, Global};
 use std::cmp::Ordering;
@@ -43,6 +43,12 @@ impl Blob {
         &self.bytes
     }
 
+    pub fn copy(&self) -> Result<Blob, AllocError>
+        ensures { IfOk result (λ copy. copy ≡ self.now) }
+    {
+        self.clone()
+    }
+
     pub fn into_vec(self) -> Vec<u8>
         ensures { result.items ≡ self }
     {
@@ -61,6 +67,54 @@ impl Blob {
         lengthen(&mut self.bytes, at + bytes.len())?;
         put_at(&mut self.bytes, at, bytes);
         Ok(())
+    }
+
+    /// A copy of the bytes from a place on, at most so many.
+    pub fn part(&self, alloc: Global, from: usize, len: usize) -> Result<Blob, AllocError>
+        ensures { IfOk result (λ part. part ≡ take len (drop from self.now)) }
+    {
+        Blob::new(alloc, first(after(&self.bytes, from), len))
+    }
+
+    /// Writes zeros from a place on, in place. Bytes between the old end and that place become 0.
+    pub fn zero_at(&mut self, at: usize, len: usize) -> Result<(), AllocError>
+        requires { at + len < 2 ^ 63 }
+        ensures ok { OnOk result (self.new ≡ overwrite self.old at (replicate len 0)) }
+        ensures err { OnErr result (self.new ≡ self.old) }
+    {
+        if len == 0 {
+            return Ok(());
+        }
+        lengthen(&mut self.bytes, at + len)?;
+        zero_part(&mut self.bytes, at, len);
+        Ok(())
+    }
+
+    /// Gives the list a length: bytes past it go, new ones are 0.
+    pub fn resize(&mut self, len: usize) -> Result<(), AllocError>
+        ensures ok { OnOk result (self.new ≡ resize self.old len) }
+        ensures err { OnErr result (self.new ≡ self.old) }
+    {
+        self.bytes.resize(len, 0)?;
+        Ok(())
+    }
+}
+
+// The bytes from a place on.
+fn after(bytes: &[u8], at: usize) -> &[u8]
+    ensures { result.now ≡ drop at bytes.now }
+{
+    if at < bytes.len() { &bytes[at..] } else { &[] }
+}
+
+// At most so many bytes.
+fn first(bytes: &[u8], len: usize) -> &[u8]
+    ensures { result.now ≡ take len bytes.now }
+{
+    if len < bytes.len() {
+        &bytes[..len]
+    } else {
+        bytes
     }
 }
 
@@ -81,6 +135,14 @@ fn put_at(into: &mut Vec<u8>, at: usize, bytes: &[u8])
     ensures { into.new.items ≡ take at into.old.items ++ bytes.now ++ drop (at + length bytes.now) into.old.items }
 {
     into[at..at + bytes.len()].copy_from_slice(bytes);
+}
+
+// Makes bytes from a place on 0.
+fn zero_part(bytes: &mut Vec<u8>, at: usize, len: usize)
+    requires { at + len ≤ vec_len bytes.old }
+    ensures { bytes.new.items ≡ take at bytes.old.items ++ replicate len 0 ++ drop (at + len) bytes.old.items }
+{
+    bytes[at..at + len].fill(0);
 }
 
 impl Clone for Blob {

@@ -1,10 +1,12 @@
-use crate::{Blob, PairList};
+use crate::{Blob, PairMap};
 
-/// An object in memory. Its lists of pairs hold each name once.
+/// An object in memory.
 #[derive(Debug, Drop)]
 pub struct PlainObject {
     pub bytes: Blob,
-    pub attrs: PairList,
+    pub attrs: PairMap,
+    /// The omap header.
     pub header: Blob,
-    pub pairs: PairList,
+    /// The omap pairs.
+    pub pairs: PairMap,
 }

@@ -1,131 +1,23 @@
 //! Objects kept plainly in memory.
-ghost use Rattle.std.specs.Prelude.{◌≡◌, ◌<◌, ◌≤◌, ◌+◌, ◌^◌, length, OnOk, OnErr, IfOk, IfSome, is_some};
+ghost use Rattle.std.specs.Prelude.{◌≡◌, ◌<◌, ◌+◌, ◌^◌, true, false, OnOk, OnErr, IfOk, IfSome, is_some};
 ghost use Rattle.std.specs.FinMap as map;
-ghost use Rattle.std.specs.Option.{option_copied, option_map, unwrap_or};
-ghost use Rattle.fs_model.specs.Objects.{empty_object, look, read_object, with_object};
-ghost use Rattle.fs_model.specs.Plain.{object_of};
-ghost use Rattle.fs_model.specs.Rows.{row, written};
-ghost use Rattle.fs_model.specs.Check.{IsWithinLimits};
-ghost use Rattle.fs_model.specs.Listing.{IsEachOnce, shelf_of};
+ghost use Rattle.std.specs.List.{AllByRecursion};
+ghost use Rattle.std.specs.Option.{option_copied, option_map};
+ghost use Rattle.fs_model.specs.Objects.{look, read_object, with_object, without_object};
+ghost use Rattle.fs_model.specs.Plain.{edited, object_of, IsInReach};
+ghost use Rattle.fs_model.specs.Rows.{row, fold_ops, both_there, part};
+ghost use Rattle.fs_model.specs.Check.{IsWithinLimits, same_object};
+ghost use Rattle.fs_model.specs.Listing.{IsEachOnce, listing, shelf_of};
 ghost use Rattle.fs_model.specs.Colls.{colls_of};
 
-use crate::{Blob, CollList, OidList, Op, PairList, PlainObject};
+use crate::coll_order::{PlacedColl, add, in_order};
+use crate::edit::{Edit, Kept};
+use crate::shelf::PlainShelf;
+use crate::{Blob, CollList, CollNames, OidList, Op, Page, PlainObject};
 use fs_names::{Coll, Oid};
 use std::alloc::{AllocError, Global};
-use std::collections::BTreeMap;
+use std::collections::{BTreeMap, BTreeSet};
 use std::marker::Model;
-
-// An object, which contracts see as what it stands for.
-#[derive(Drop)]
-struct Kept {
-    object: PlainObject,
-}
-
-impl Model for Kept {
-    ghost use Rattle.fs_model.specs.Objects.{Object, object_code};
-
-    ghost Value = { Object };
-
-    ghost coded = { object_code };
-
-    ghost use Rattle.fs_model.specs.Plain.{object_of};
-
-    ghost view = { λ k. object_of k.object };
-}
-
-impl Kept {
-    fn new(alloc: Global) -> Kept
-        ensures { result ≡ empty_object }
-    {
-        Kept {
-            object: PlainObject {
-                bytes: Blob::from_vec(Vec::new(alloc)),
-                attrs: PairList::from_vec(Vec::new(alloc)),
-                header: Blob::from_vec(Vec::new(alloc)),
-                pairs: PairList::from_vec(Vec::new(alloc)),
-            },
-        }
-    }
-
-    fn write(&mut self, at: u64, bytes: &[u8]) -> Result<(), AllocError>
-        requires { at + length bytes.now < 2 ^ 63 }
-        ensures ok { OnOk result (self.new ≡ written self.old at bytes.now) }
-        ensures err { OnErr result (self.new ≡ self.old) }
-    {
-        self.object.bytes.write_at(at as usize, bytes)
-    }
-}
-
-// The objects of one collection.
-#[derive(Drop)]
-struct PlainShelf {
-    alloc: Global,
-    objects: BTreeMap<Oid, Kept>,
-}
-
-impl Model for PlainShelf {
-    ghost use Rattle.std.specs.FinMap as map;
-    ghost use Rattle.fs_model.specs.Objects.{Shelf, shelf_code};
-
-    ghost Value = { Shelf };
-
-    ghost coded = { shelf_code };
-
-    ghost view = { λ s. map.from_entries s.objects.entries };
-}
-
-impl PlainShelf {
-    fn new(alloc: Global) -> PlainShelf
-        ensures { result ≡ map.empty }
-    {
-        PlainShelf {
-            alloc,
-            objects: BTreeMap::new(alloc),
-        }
-    }
-
-    fn object(&self, o: &Oid) -> Option<&PlainObject>
-        ensures { option_map object_of (option_copied result) ≡ map.get self.now o.now }
-    {
-        match self.objects.get(o) {
-            None => None,
-            Some(kept) => Some(&kept.object),
-        }
-    }
-
-    fn names(&self) -> Result<OidList, AllocError>
-        ensures { IfOk result (λ names. IsEachOnce names self.now) }
-    {
-        let mut names = Vec::new(self.alloc);
-        for oid in self.objects.keys() {
-            names.push(oid.copy()?)?;
-        }
-        Ok(OidList::from_vec(names))
-    }
-
-    fn insert(&mut self, o: Oid, kept: Kept) -> Result<(), AllocError>
-        ensures ok { OnOk result (self.new ≡ map.insert self.old o kept) }
-        ensures err { OnErr result (self.new ≡ self.old) }
-    {
-        self.objects.insert(o, kept)?;
-        Ok(())
-    }
-
-    fn write(&mut self, o: &Oid, at: u64, bytes: &[u8]) -> Result<(), AllocError>
-        requires { at + length bytes.now < 2 ^ 63 }
-        ensures ok { OnOk result (self.new ≡ map.insert self.old o.now (written (unwrap_or (map.get self.old o.now) empty_object) at bytes.now)) }
-        ensures err { OnErr result (self.new ≡ self.old) }
-    {
-        match self.objects.get_mut(o) {
-            Some(kept) => kept.write(at, bytes),
-            None => {
-                let mut kept = Kept::new(self.alloc);
-                kept.write(at, bytes)?;
-                self.insert(o.copy()?, kept)
-            }
-        }
-    }
-}
 
 /// All objects, by collection. Each operation is done in place, so that what it costs goes by what it holds; an
 /// object that grows by many small writes is moved seldom.
@@ -176,9 +68,18 @@ impl PlainObjects {
     pub fn object(&self, c: &Coll, o: &Oid) -> Option<&PlainObject>
         ensures { option_map object_of (option_copied result) ≡ look self.now c.now o.now }
     {
+        match self.kept(c, o) {
+            None => None,
+            Some(kept) => Some(kept.object()),
+        }
+    }
+
+    fn kept(&self, c: &Coll, o: &Oid) -> Option<&Kept>
+        ensures { option_copied result ≡ look self.now c.now o.now }
+    {
         match self.shelves.get(c) {
             None => None,
-            Some(shelf) => shelf.object(o),
+            Some(shelf) => shelf.get(o),
         }
     }
 
@@ -193,6 +94,34 @@ impl PlainObjects {
         }
     }
 
+    /// A page of a collection's listing in hash order, from the first object at or after one on, or from the first of
+    /// all. It costs what the page holds, and a search. None where the collection is missing.
+    pub fn page(&self, c: &Coll, from: Option<&Oid>, max: u32) -> Result<Option<Page>, AllocError>
+        ensures { IfOk result (λ page. page ≡ listing self.now c.now (option_copied from.old) max) }
+    {
+        match self.shelves.get(c) {
+            None => Ok(None),
+            Some(shelf) => Ok(Some(shelf.page(from, max)?)),
+        }
+    }
+
+    /// The collections, in the order of their texts.
+    pub fn coll_names(&self) -> Result<CollNames, AllocError>
+        ensures { IfOk result (λ names. names ≡ map.keys self.now) }
+    {
+        in_order(self.alloc, self.placed_colls()?)
+    }
+
+    fn placed_colls(&self) -> Result<BTreeSet<PlacedColl>, AllocError>
+        ensures { IfOk result (λ set. set.keys ≡ map.keys self.now) }
+    {
+        let mut set = BTreeSet::new(self.alloc);
+        for c in self.shelves.keys() {
+            add(self.alloc, &mut set, *c)?;
+        }
+        Ok(set)
+    }
+
     /// Does what the operation means. Where memory runs out, all stays as it was.
     pub fn apply(&mut self, op: &Op) -> Result<(), AllocError>
         requires { IsWithinLimits op.now }
@@ -200,10 +129,48 @@ impl PlainObjects {
         ensures err { OnErr result (self.new ≡ self.old) }
     {
         match op {
+            Op::Touch { c, o } => self.edit(c, o, &Edit::Touch),
+            Op::Write { c, o, at, bytes } => {
+                let bytes = bytes.slice();
+                self.edit(c, o, &Edit::Write { at: *at, bytes })
+            }
+            Op::Zero { c, o, at, len } => self.edit(c, o, &Edit::Zero { at: *at, len: *len }),
+            Op::Truncate { c, o, len } => self.edit(c, o, &Edit::Truncate { len: *len }),
+            Op::Remove { c, o } => Ok(self.remove(c, o)),
+            Op::SetAttrs { c, o, pairs } => {
+                let pairs = pairs.slice();
+                self.edit(c, o, &Edit::SetAttrs { pairs })
+            }
+            Op::RmAttr { c, o, name } => self.edit(c, o, &Edit::RmAttr { name }),
+            Op::RmAttrs { c, o } => self.edit(c, o, &Edit::RmAttrs),
+            Op::Clone { c, o, c2, o2 } => self.copy_object(c, o, c2, o2),
+            Op::CloneRange {
+                c,
+                o,
+                c2,
+                o2,
+                from,
+                len,
+                to,
+            } => { self.copy_part(c, o, c2, o2, (*from, *len, *to)) }
+            Op::MoveRename { c, o, c2, o2 } => self.move_object(c, o, c2, o2),
             Op::MkColl { c } => self.make(c),
-            // A touch is a write of no bytes.
-            Op::Touch { c, o } => self.write(c, o, 0, &[]),
-            Op::Write { c, o, at, bytes } => self.write(c, o, *at, bytes.slice()),
+            Op::RmColl { c } => Ok(self.drop_coll(c)),
+            Op::OmapClear { c, o } => self.edit(c, o, &Edit::OmapClear),
+            Op::OmapSet {
+                c,
+                o,
+                header,
+                pairs,
+            } => {
+                let pairs = pairs.slice();
+                self.edit(c, o, &Edit::OmapSet { header, pairs })
+            }
+            Op::OmapRemove { c, o, keys } => {
+                let keys = keys.slice();
+                self.edit(c, o, &Edit::OmapRemove { keys })
+            }
+            Op::OmapRange { c, o, from, to } => self.edit(c, o, &Edit::OmapRange { from, to }),
         }
     }
 
@@ -219,14 +186,145 @@ impl PlainObjects {
         Ok(())
     }
 
-    fn write(&mut self, c: &Coll, o: &Oid, at: u64, bytes: &[u8]) -> Result<(), AllocError>
-        requires { at + length bytes.now < 2 ^ 63 }
-        ensures ok { OnOk result (self.new ≡ with_object self.old c.now o.now (written (read_object self.old c.now o.now) at bytes.now)) }
+    fn drop_coll(&mut self, c: &Coll)
+        ensures { self.new ≡ map.remove self.old c.now }
+    {
+        self.shelves.remove(c);
+    }
+
+    fn edit(&mut self, c: &Coll, o: &Oid, edit: &Edit) -> Result<(), AllocError>
+        requires { IsInReach edit.now }
+        ensures ok { OnOk result (self.new ≡ with_object self.old c.now o.now (edited (read_object self.old c.now o.now) edit.now)) }
         ensures err { OnErr result (self.new ≡ self.old) }
     {
         match self.shelves.get_mut(c) {
             None => Ok(()),
-            Some(shelf) => shelf.write(o, at, bytes),
+            Some(shelf) => shelf.edit(o, edit),
         }
+    }
+
+    fn remove(&mut self, c: &Coll, o: &Oid)
+        ensures { self.new ≡ without_object self.old c.now o.now }
+    {
+        self.take(c, o);
+    }
+
+    // Whether both collections are there.
+    fn has_both(&self, c: &Coll, c2: &Coll) -> bool
+        ensures { result ≡ both_there self.now c.now c2.now }
+    {
+        self.has(c) && self.has(c2)
+    }
+
+    // Takes an object out, an empty one where there is none.
+    fn take(&mut self, c: &Coll, o: &Oid) -> Kept
+        ensures taken { result ≡ read_object self.old c.now o.now }
+        ensures left { self.new ≡ without_object self.old c.now o.now }
+    {
+        match self.shelves.get_mut(c) {
+            None => Kept::new(self.alloc),
+            Some(shelf) => shelf.take(o),
+        }
+    }
+
+    // Puts an object in place of one that is there.
+    fn replace(&mut self, c: &Coll, o: &Oid, kept: Kept)
+        requires { is_some (look self.old c.now o.now) ≡ true }
+        ensures { self.new ≡ with_object self.old c.now o.now kept }
+    {
+        match self.shelves.get_mut(c) {
+            None => {}
+            Some(shelf) => shelf.replace(o, kept),
+        }
+    }
+
+    // Puts an object in a place of a collection.
+    fn put(&mut self, c: &Coll, o: &Oid, kept: Kept) -> Result<(), AllocError>
+        ensures ok { OnOk result (self.new ≡ with_object self.old c.now o.now kept) }
+        ensures err { OnErr result (self.new ≡ self.old) }
+    {
+        let o = o.copy()?;
+        match self.shelves.get_mut(c) {
+            None => Ok(()),
+            Some(shelf) => shelf.insert(o, kept),
+        }
+    }
+
+    // A copy of an object, an empty one where there is none.
+    fn copy_of(&self, c: &Coll, o: &Oid) -> Result<Kept, AllocError>
+        ensures { IfOk result (λ copy. copy ≡ read_object self.now c.now o.now) }
+    {
+        match self.kept(c, o) {
+            None => Ok(Kept::new(self.alloc)),
+            Some(kept) => kept.copy(),
+        }
+    }
+
+    // A copy of an object's bytes from a place on, at most so many.
+    fn part_of(&self, c: &Coll, o: &Oid, from: u64, len: u64) -> Result<Blob, AllocError>
+        ensures { IfOk result (λ bytes. bytes ≡ part (read_object self.now c.now o.now) from len) }
+    {
+        match self.object(c, o) {
+            None => Ok(Blob::from_vec(Vec::new(self.alloc))),
+            Some(object) => object.bytes.part(self.alloc, from as usize, len as usize),
+        }
+    }
+
+    fn copy_object(&mut self, c: &Coll, o: &Oid, c2: &Coll, o2: &Oid) -> Result<(), AllocError>
+        ensures ok { OnOk result (self.new ≡ row self.old (Op.Clone c.now o.now c2.now o2.now)) }
+        ensures err { OnErr result (self.new ≡ self.old) }
+    {
+        if !self.has_both(c, c2) {
+            return Ok(());
+        }
+        let copy = self.copy_of(c, o)?;
+        self.put(c2, o2, copy)
+    }
+
+    fn copy_part(
+        &mut self,
+        c: &Coll,
+        o: &Oid,
+        c2: &Coll,
+        o2: &Oid,
+        range: (u64, u64, u64),
+    ) -> Result<(), AllocError>
+        requires { range.2 + range.1 < 2 ^ 63 }
+        ensures ok { OnOk result (self.new ≡ row self.old (Op.CloneRange c.now o.now c2.now o2.now range.0 range.1 range.2)) }
+        ensures err { OnErr result (self.new ≡ self.old) }
+    {
+        let (from, len, to) = range;
+        if !self.has_both(c, c2) {
+            return Ok(());
+        }
+        let bytes = self.part_of(c, o, from, len)?;
+        let bytes = bytes.slice();
+        self.edit(c2, o2, &Edit::Write { at: to, bytes })
+    }
+
+    // Moves an object, without a copy of it.
+    fn move_object(&mut self, c: &Coll, o: &Oid, c2: &Coll, o2: &Oid) -> Result<(), AllocError>
+        requires { same_object (Op.MoveRename c.now o.now c2.now o2.now) ≡ false }
+        ensures ok { OnOk result (self.new ≡ row self.old (Op.MoveRename c.now o.now c2.now o2.now)) }
+        ensures err { OnErr result (self.new ≡ self.old) }
+    {
+        if !self.has_both(c, c2) {
+            return Ok(());
+        }
+        self.edit(c2, o2, &Edit::Touch)?;
+        let moved = self.take(c, o);
+        self.replace(c2, o2, moved);
+        Ok(())
+    }
+
+    /// Does operations, one after the other. Where memory runs out, those before that are done.
+    pub fn apply_all(&mut self, ops: &[Op]) -> Result<(), AllocError>
+        requires { AllByRecursion IsWithinLimits ops.now }
+        ensures { OnOk result (self.new ≡ fold_ops self.old ops.now) }
+    {
+        for op in ops {
+            self.apply(op)?;
+        }
+        Ok(())
     }
 }

@@ -45,16 +45,16 @@ fn make(seed: u32) -> Op {
 // How a transaction is refused where `1.0_head` alone is there.
 fn fault(alloc: Global, ops: Vec<Op>) -> Result<Option<TxnFault>, AllocError> {
     let mut colls = CollList::new(alloc);
-    let first = Txn {
-        ops: OpList::from_vec(vec![in alloc; make(0)]?),
-    };
-    if let Err(fault) = add_txn(&first, &mut colls) {
-        return Ok(Some(fault));
-    }
+    colls.insert(group(0))?;
     let txn = Txn {
         ops: OpList::from_vec(ops),
     };
-    Ok(check_txn(&txn, &colls).err())
+    Ok(check_txn(alloc, &txn, &colls).err())
+}
+
+// The same of one operation.
+fn fault_of(alloc: Global, op: Result<Op, NameFault>) -> Result<Option<TxnFault>, Fail> {
+    Ok(fault(alloc, vec![in alloc; op?]?)?)
 }
 
 #[test]
@@ -119,38 +119,72 @@ fn a_transaction_has_at_most_4096_operations(rt: HostRuntime) -> Result<(), Fail
 }
 
 #[test]
-fn a_refused_transaction_leaves_the_collections(rt: HostRuntime) -> Result<(), Fail> {
+fn each_operation_has_its_limits(rt: HostRuntime) -> Result<(), Fail> {
     let alloc = rt.alloc();
-    let mut colls = CollList::new(alloc);
-    let first = Txn {
-        ops: OpList::from_vec(vec![in alloc; make(0)]?),
-    };
-    assert_eq!(rt; add_txn(&first, &mut colls), Ok(()));
-    let ops = vec![in alloc; make(1), make(2), make(0)]?;
-    let second = Txn {
-        ops: OpList::from_vec(ops),
-    };
-    let refused = Err(TxnFault::At {
-        op: 2,
-        why: Why::CollectionExists,
-    });
-    assert_eq!(rt; add_txn(&second, &mut colls), refused);
-    let copy = colls.copy()?;
-    for (seed, want) in [(0, true), (1, false), (2, false)] {
-        assert_eq!(rt; colls.has(&group(seed)), want, "collection {seed}");
+    let at = |why: Why| Some(TxnFault::At { op: 0, why });
+    for (from, len, want) in [
+        (0, 16_777_216, None),
+        (1, 16_777_216, at(Why::TooBig)),
+        (u64::MAX, 1, at(Why::TooBig)),
+    ] {
         assert_eq!(rt;
-            copy.has(&group(seed)),
+            fault_of(alloc, zero(alloc, from, len))?,
             want,
-            "collection {seed} of the copy"
+            "{len} at {from}"
         );
     }
-    assert_eq!(rt; second.ops.into_vec().len(), 3);
+    assert_eq!(rt;
+        fault_of(alloc, truncate(alloc, 16_777_217))?,
+        at(Why::TooBig)
+    );
+    assert_eq!(rt; fault_of(alloc, rm_attr(alloc, b""))?, at(Why::TooBig));
+    assert_eq!(rt; fault_of(alloc, rm_attr(alloc, &[7; 255]))?, None);
+    assert_eq!(rt;
+        fault_of(alloc, rm_attr(alloc, &[7; 256]))?,
+        at(Why::TooBig)
+    );
+    assert_eq!(rt; fault_of(alloc, omap_remove(alloc, &[7; 1_024]))?, None);
+    assert_eq!(rt;
+        fault_of(alloc, omap_remove(alloc, &[7; 1_025]))?,
+        at(Why::TooBig)
+    );
+    assert_eq!(rt;
+        fault_of(alloc, omap_range(alloc, b"", &[7; 1_025]))?,
+        at(Why::TooBig)
+    );
+    assert_eq!(rt;
+        fault_of(alloc, clone_to(alloc, b"a", 0, b"a"))?,
+        at(Why::SameObject)
+    );
+    assert_eq!(rt;
+        fault_of(alloc, move_to(alloc, b"a", 1, b"a"))?,
+        at(Why::NoCollection)
+    );
+    Ok(())
+}
+
+#[test]
+fn a_change_of_collections_is_done_apart_from_its_check(rt: HostRuntime) -> Result<(), Fail> {
+    let alloc = rt.alloc();
+    let mut colls = CollList::new(alloc);
+    colls.insert(group(0))?;
+    let ops = vec![in alloc; make(1), Op::RmColl { c: group(0) }, make(2)]?;
+    let txn = Txn {
+        ops: OpList::from_vec(ops),
+    };
+    let change = check_txn(alloc, &txn, &colls).ok().ok_or("refused")?;
+    let before = colls.copy()?;
+    colls.apply(alloc, &change)?;
+    for (seed, old, new) in [(0, true, false), (1, false, true), (2, false, true)] {
+        assert_eq!(rt; before.has(&group(seed)), old, "collection {seed} before");
+        assert_eq!(rt; colls.has(&group(seed)), new, "collection {seed}");
+    }
     Ok(())
 }
 
 fn apply(objects: &mut PlainObjects, op: &Op) -> Result<(), Fail> {
-    if op.is_too_big() {
-        return Err("too big")?;
+    if op.is_unfit() {
+        return Err("unfit")?;
     }
     objects.apply(op)?;
     Ok(())
@@ -191,19 +225,340 @@ fn a_write_keeps_what_is_round_it_and_fills_a_gap_with_zeros(rt: HostRuntime) ->
     Ok(())
 }
 
-#[test]
-fn a_touch_makes_an_object_only_in_a_collection_and_leaves_one_that_is_there(
-    rt: HostRuntime,
-) -> Result<(), Fail> {
-    let alloc = rt.alloc();
+fn blob(alloc: Global, bytes: &[u8]) -> Result<Blob, AllocError> {
+    Blob::new(alloc, bytes)
+}
+
+// Pairs of one byte each, as `b"x1y2"`.
+fn pairs(alloc: Global, text: &[u8]) -> Result<PairList, AllocError> {
+    let mut pairs = Vec::new(alloc);
+    let mut left = text;
+    while let [key, value, rest @ ..] = left {
+        let key = blob(alloc, &[*key])?;
+        let value = blob(alloc, &[*value])?;
+        pairs.push(Pair { key, value })?;
+        left = rest;
+    }
+    Ok(PairList::from_vec(pairs))
+}
+
+fn set_attrs(alloc: Global, text: &[u8]) -> Result<Op, NameFault> {
+    Ok(Op::SetAttrs {
+        c: group(0),
+        o: named(alloc, b"a")?,
+        pairs: pairs(alloc, text)?,
+    })
+}
+
+fn rm_attr(alloc: Global, name: &[u8]) -> Result<Op, NameFault> {
+    Ok(Op::RmAttr {
+        c: group(0),
+        o: named(alloc, b"a")?,
+        name: blob(alloc, name)?,
+    })
+}
+
+fn omap_set(alloc: Global, header: Option<&[u8]>, text: &[u8]) -> Result<Op, NameFault> {
+    let header = match header {
+        None => None,
+        Some(header) => Some(blob(alloc, header)?),
+    };
+    Ok(Op::OmapSet {
+        c: group(0),
+        o: named(alloc, b"a")?,
+        header,
+        pairs: pairs(alloc, text)?,
+    })
+}
+
+fn one_key(alloc: Global, key: &[u8]) -> Result<BlobList, AllocError> {
+    let key = blob(alloc, key)?;
+    Ok(BlobList::from_vec(vec![in alloc; key]?))
+}
+
+fn omap_remove(alloc: Global, key: &[u8]) -> Result<Op, NameFault> {
+    Ok(Op::OmapRemove {
+        c: group(0),
+        o: named(alloc, b"a")?,
+        keys: one_key(alloc, key)?,
+    })
+}
+
+fn omap_range(alloc: Global, from: &[u8], to: &[u8]) -> Result<Op, NameFault> {
+    Ok(Op::OmapRange {
+        c: group(0),
+        o: named(alloc, b"a")?,
+        from: blob(alloc, from)?,
+        to: blob(alloc, to)?,
+    })
+}
+
+fn zero(alloc: Global, at: u64, len: u64) -> Result<Op, NameFault> {
+    Ok(Op::Zero {
+        c: group(0),
+        o: named(alloc, b"a")?,
+        at,
+        len,
+    })
+}
+
+fn truncate(alloc: Global, len: u64) -> Result<Op, NameFault> {
+    Ok(Op::Truncate {
+        c: group(0),
+        o: named(alloc, b"a")?,
+        len,
+    })
+}
+
+fn clone_to(alloc: Global, from: &[u8], seed: u32, to: &[u8]) -> Result<Op, NameFault> {
+    Ok(Op::Clone {
+        c: group(0),
+        o: named(alloc, from)?,
+        c2: group(seed),
+        o2: named(alloc, to)?,
+    })
+}
+
+fn move_to(alloc: Global, from: &[u8], seed: u32, to: &[u8]) -> Result<Op, NameFault> {
+    Ok(Op::MoveRename {
+        c: group(0),
+        o: named(alloc, from)?,
+        c2: group(seed),
+        o2: named(alloc, to)?,
+    })
+}
+
+fn clone_range(alloc: Global, from: u64, len: u64, to: u64) -> Result<Op, NameFault> {
+    Ok(Op::CloneRange {
+        c: group(0),
+        o: named(alloc, b"a")?,
+        c2: group(1),
+        o2: named(alloc, b"b")?,
+        from,
+        len,
+        to,
+    })
+}
+
+fn show_pairs(alloc: Global, out: &mut Vec<u8>, map: &PairMap) -> Result<(), AllocError> {
+    out.push(b'|')?;
+    for pair in map.to_list(alloc)?.slice() {
+        out.extend_from_slice(pair.key.slice())?;
+        out.extend_from_slice(pair.value.slice())?;
+    }
+    Ok(())
+}
+
+// An object as its bytes, attributes, omap header and pairs between bars; `-` where there is none.
+fn show(alloc: Global, out: &mut Vec<u8>, object: Option<&PlainObject>) -> Result<(), AllocError> {
+    let Some(object) = object else {
+        out.push(b'-')?;
+        return Ok(());
+    };
+    out.extend_from_slice(object.bytes.slice())?;
+    show_pairs(alloc, out, &object.attrs)?;
+    out.push(b'|')?;
+    out.extend_from_slice(object.header.slice())?;
+    show_pairs(alloc, out, &object.pairs)
+}
+
+// The object `a` of `1.0_head`, and `b` of `1.0_head` and of `1.1_head`, between spaces.
+fn show_all(alloc: Global, objects: &PlainObjects) -> Result<Vec<u8>, Fail> {
+    let a = named(alloc, b"a")?;
+    let b = named(alloc, b"b")?;
+    let mut out = Vec::new(alloc);
+    show(alloc, &mut out, objects.object(&group(0), &a))?;
+    out.push(b' ')?;
+    show(alloc, &mut out, objects.object(&group(0), &b))?;
+    out.push(b' ')?;
+    show(alloc, &mut out, objects.object(&group(1), &b))?;
+    Ok(out)
+}
+
+// Two collections, and `a` with six bytes, two attributes, an omap header and three pairs.
+fn start(alloc: Global) -> Result<PlainObjects, Fail> {
     let mut objects = PlainObjects::new(alloc);
-    apply(&mut objects, &touch(alloc, 0)?)?;
-    assert_eq!(rt; objects.has(&group(0)), false);
-    assert_eq!(rt; bytes_of(alloc, &objects)?.is_none(), true);
-    let mut objects = written_twice(alloc, b"ab", 2, b"c")?;
-    apply(&mut objects, &touch(alloc, 0)?)?;
-    let found = bytes_of(alloc, &objects)?.ok_or("no object")?;
-    assert_eq!(rt; found.as_slice(), b"abc".as_slice());
+    apply(&mut objects, &make(0))?;
+    apply(&mut objects, &make(1))?;
+    apply(&mut objects, &write(alloc, 0, b"abcdef".to_vec(alloc)?)?)?;
+    apply(&mut objects, &set_attrs(alloc, b"y2x1")?)?;
+    apply(&mut objects, &omap_set(alloc, Some(b"h"), b"r3p1q2")?)?;
+    Ok(objects)
+}
+
+// What an operation leaves of that.
+fn after(alloc: Global, op: Result<Op, NameFault>) -> Result<Vec<u8>, Fail> {
+    let mut objects = start(alloc)?;
+    apply(&mut objects, &op?)?;
+    show_all(alloc, &objects)
+}
+
+#[test]
+fn operations_on_bytes_mean_their_rows(rt: HostRuntime) -> Result<(), Fail> {
+    let alloc = rt.alloc();
+    for (at, len, want) in [
+        (1, 2, b"a\0\0def|x1y2|h|p1q2r3 - -".as_slice()),
+        (5, 3, b"abcde\0\0\0|x1y2|h|p1q2r3 - -"),
+        (8, 0, b"abcdef|x1y2|h|p1q2r3 - -"),
+    ] {
+        assert_eq!(rt;
+            after(alloc, zero(alloc, at, len))?.as_slice(),
+            want,
+            "{len} zeros at {at}"
+        );
+    }
+    for (len, want) in [
+        (2, b"ab|x1y2|h|p1q2r3 - -".as_slice()),
+        (8, b"abcdef\0\0|x1y2|h|p1q2r3 - -"),
+    ] {
+        assert_eq!(rt;
+            after(alloc, truncate(alloc, len))?.as_slice(),
+            want,
+            "length {len}"
+        );
+    }
+    Ok(())
+}
+
+#[test]
+fn operations_on_pairs_mean_their_rows(rt: HostRuntime) -> Result<(), Fail> {
+    let alloc = rt.alloc();
+    for (pairs, want) in [
+        (
+            b"x7z8x9".as_slice(),
+            b"abcdef|x9y2z8|h|p1q2r3 - -".as_slice(),
+        ),
+        (b"", b"abcdef|x1y2|h|p1q2r3 - -"),
+    ] {
+        assert_eq!(rt;
+            after(alloc, set_attrs(alloc, pairs))?.as_slice(),
+            want,
+            "{pairs:?}"
+        );
+    }
+    for (header, pairs, want) in [
+        (
+            None,
+            b"q7".as_slice(),
+            b"abcdef|x1y2|h|p1q7r3 - -".as_slice(),
+        ),
+        (Some(b"".as_slice()), b"o0", b"abcdef|x1y2||o0p1q2r3 - -"),
+    ] {
+        assert_eq!(rt;
+            after(alloc, omap_set(alloc, header, pairs))?.as_slice(),
+            want,
+            "{pairs:?}"
+        );
+    }
+    for (from, to, want) in [
+        (
+            b"p".as_slice(),
+            b"r".as_slice(),
+            b"abcdef|x1y2|h|r3 - -".as_slice(),
+        ),
+        (b"", b"zz", b"abcdef|x1y2|h| - -"),
+        (b"r", b"p", b"abcdef|x1y2|h|p1q2r3 - -"),
+        (b"pp", b"q", b"abcdef|x1y2|h|p1q2r3 - -"),
+    ] {
+        assert_eq!(rt;
+            after(alloc, omap_range(alloc, from, to))?.as_slice(),
+            want,
+            "{from:?}"
+        );
+    }
+    for (key, want) in [
+        (b"q".as_slice(), b"abcdef|x1y2|h|p1r3 - -".as_slice()),
+        (b"o", b"abcdef|x1y2|h|p1q2r3 - -"),
+    ] {
+        assert_eq!(rt;
+            after(alloc, omap_remove(alloc, key))?.as_slice(),
+            want,
+            "{key:?}"
+        );
+    }
+    assert_eq!(rt;
+        after(alloc, rm_attr(alloc, b"x"))?.as_slice(),
+        b"abcdef|y2|h|p1q2r3 - -".as_slice()
+    );
+    Ok(())
+}
+
+#[test]
+fn operations_on_two_objects_mean_their_rows(rt: HostRuntime) -> Result<(), Fail> {
+    let alloc = rt.alloc();
+    for (name, seed, want) in [
+        (
+            b"a".as_slice(),
+            1,
+            b"abcdef|x1y2|h|p1q2r3 - abcdef|x1y2|h|p1q2r3".as_slice(),
+        ),
+        (b"a", 0, b"abcdef|x1y2|h|p1q2r3 abcdef|x1y2|h|p1q2r3 -"),
+        (b"m", 0, b"abcdef|x1y2|h|p1q2r3 ||| -"),
+        (b"a", 9, b"abcdef|x1y2|h|p1q2r3 - -"),
+    ] {
+        assert_eq!(rt;
+            after(alloc, clone_to(alloc, name, seed, b"b"))?.as_slice(),
+            want,
+            "clone to {seed}"
+        );
+    }
+    for (name, seed, want) in [
+        (b"a".as_slice(), 1, b"- - abcdef|x1y2|h|p1q2r3".as_slice()),
+        (b"a", 0, b"- abcdef|x1y2|h|p1q2r3 -"),
+        (b"m", 0, b"abcdef|x1y2|h|p1q2r3 ||| -"),
+        (b"a", 9, b"abcdef|x1y2|h|p1q2r3 - -"),
+    ] {
+        assert_eq!(rt;
+            after(alloc, move_to(alloc, name, seed, b"b"))?.as_slice(),
+            want,
+            "move to {seed}"
+        );
+    }
+    for (from, len, to, want) in [
+        (1, 2, 1, b"abcdef|x1y2|h|p1q2r3 - \0bc|||".as_slice()),
+        (4, 9, 0, b"abcdef|x1y2|h|p1q2r3 - ef|||"),
+        (9, 2, 5, b"abcdef|x1y2|h|p1q2r3 - |||"),
+    ] {
+        assert_eq!(rt;
+            after(alloc, clone_range(alloc, from, len, to))?.as_slice(),
+            want,
+            "{len} from {from}"
+        );
+    }
+    Ok(())
+}
+
+#[test]
+fn operations_that_take_away_mean_their_rows(rt: HostRuntime) -> Result<(), Fail> {
+    let alloc = rt.alloc();
+    let c = group(0);
+    let o = named(alloc, b"a")?;
+    assert_eq!(rt;
+        after(alloc, Ok(Op::Remove { c, o }))?.as_slice(),
+        b"- - -".as_slice()
+    );
+    let o = named(alloc, b"a")?;
+    assert_eq!(rt;
+        after(alloc, Ok(Op::RmAttrs { c, o }))?.as_slice(),
+        b"abcdef||h|p1q2r3 - -".as_slice()
+    );
+    let o = named(alloc, b"a")?;
+    assert_eq!(rt;
+        after(alloc, Ok(Op::OmapClear { c, o }))?.as_slice(),
+        b"abcdef|x1y2|| - -".as_slice()
+    );
+    assert_eq!(rt;
+        after(alloc, Ok(Op::RmColl { c }))?.as_slice(),
+        b"- - -".as_slice()
+    );
+    assert_eq!(rt;
+        after(alloc, touch(alloc, 0))?.as_slice(),
+        b"abcdef|x1y2|h|p1q2r3 - -".as_slice()
+    );
+    assert_eq!(rt;
+        after(alloc, touch(alloc, 7))?.as_slice(),
+        b"abcdef|x1y2|h|p1q2r3 - -".as_slice()
+    );
     Ok(())
 }
 

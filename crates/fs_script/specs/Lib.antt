@@ -1,5 +1,10 @@
 pub mod Bytes
+pub mod Reading
+pub mod Words
+pub mod Fields
+pub mod Operations
+pub mod Statements
+pub mod Keywords
 pub mod Grammar
+pub mod Kept
 pub mod Printed
-pub mod Answers
-pub mod Cut

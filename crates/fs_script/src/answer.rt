@@ -1,4 +1,4 @@
-use fs_model::{Blob, OidList, Why};
+use fs_model::{Blob, CollNames, OidList, PairList, Why};
 use fs_names::Oid;
 
 /// What a statement answers.
@@ -21,8 +21,15 @@ pub enum Answer {
     /// All transactions up to these numbers are acknowledged and applied.
     Drained { acked: u64, seq: u64 },
     Bytes(Blob),
+    /// An object's length.
+    Size(u64),
+    Attrs(PairList),
+    Omap { header: Blob, pairs: PairList },
     /// A page of a listing, and the object that follows it.
     Listed { oids: OidList, next: Option<Oid> },
+    Colls(CollNames),
+    /// The highest number that is acknowledged.
+    Acked { acked: u64 },
     /// The object or the collection isn't there.
     Missing,
 }

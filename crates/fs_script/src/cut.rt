@@ -1,13 +1,15 @@
 // Pieces of a text, one after another.
 ghost use Rattle.std.specs.Prelude.{◌≡◌, ◌∷◌, ◌==◌, length, IfSome, ◌<◌};
 ghost use Rattle.std.specs.List.{slice_split, position};
-ghost use Rattle.fs_script.specs.Cut.{pieces_left};
+ghost use Rattle.fs_script.specs.Words.{pieces_left};
+
+use memchr::memchr;
 
 // The place of the first such byte.
 fn place_of(text: &[u8], byte: u8) -> Option<usize>
     ensures { result ≡ position (λ b. b == byte) text.now }
 {
-    text.iter().position(|b| *b == byte)
+    memchr(byte, text)
 }
 
 /// What stands before the first such byte, and what stands behind it, if there is one.

@@ -1,4 +1,5 @@
 ghost use Rattle.std.specs.Prelude.{◌≡◌};
+ghost use Rattle.fs_script.specs.declared.fault.LineFault.TheVariants.{Memory as NoMemory};
 ghost use Rattle.fs_script.specs.declared.fault.ScriptFault.TheVariants.{Memory};
 
 use std::alloc::AllocError;
@@ -8,12 +9,17 @@ use std::alloc::AllocError;
 pub enum ScriptWhy {
     /// The first word begins no statement.
     UnknownWord,
+    /// Between `begin` and `end` stands something that is no operation.
+    NotInTransaction,
+    EndWithoutBegin,
     /// The statement takes another number of words.
     WrongCount,
     BadCollection,
     BadObject,
     BadNumber,
     BadBytes,
+    /// A `begin` has no `end`; its line is that of the `begin`.
+    NoEnd,
     /// The script has more than 67,108,864 bytes; its line is 0.
     TooLong,
 }
@@ -38,5 +44,13 @@ impl From<AllocError> for ScriptFault {
 
     fn from(_failed: AllocError) -> ScriptFault {
         ScriptFault::Memory
+    }
+}
+
+impl From<AllocError> for LineFault {
+    ghost from_gives = { λ _ e. e ≡ NoMemory };
+
+    fn from(_failed: AllocError) -> LineFault {
+        LineFault::Memory
     }
 }

@@ -8,7 +8,8 @@ mod answer;
 mod cut;
 mod fault;
 mod field;
-mod laws;
+mod keyword;
+mod operation;
 mod parse;
 mod print;
 mod script;
@@ -19,7 +20,6 @@ mod words;
 
 pub use answer::Answer;
 pub use fault::{ScriptFault, ScriptWhy};
-pub use laws::answers_law;
 pub use parse::{SCRIPT_LIMIT, parse_script};
 pub use print::{print_answer, print_refusal};
 pub use script::Script;

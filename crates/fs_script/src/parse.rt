@@ -1,46 +1,28 @@
-ghost use Rattle.fs_script.specs.Grammar.{Tells, statement_said, mkcoll_said, touch_said, write_said, drain_said, read_said, list_said, words_of, TellsLine, line_said, TellsScript, lines_said, line_if, script_said, script_limit};
 ghost use Rattle.std.specs.List.{slice_split};
-ghost use Rattle.std.specs.Prelude.{◌≡◌, ◌==◌, ◌≤◌, ◌++◌, length, OnOk};
-ghost use Rattle.fs_script.specs.Cut.{pieces_left};
+ghost use Rattle.std.specs.Prelude.{◌≡◌, ◌==◌, ◌≤◌, ◌++◌, length, None, OnOk};
+ghost use Rattle.fs_script.specs.Reading.{Tells};
+ghost use Rattle.fs_script.specs.Words.{pieces_left, words_of};
+ghost use Rattle.fs_script.specs.Statements.{alone_said, read_said, stat_said, attrs_said, omap_said, list_said};
+ghost use Rattle.fs_script.specs.declared.keyword.Keyword.TheVariants.{Op};
+ghost use Rattle.fs_script.specs.Keywords.{keyword_said};
+ghost use Rattle.fs_script.specs.Grammar.{statement_said, TellsLine, line_said, TellsScript, ended, lines_said, line_if, opened_after, script_said, script_limit};
 
 use crate::cut::cut;
 use crate::fault::{LineFault, ScriptFault, ScriptWhy};
+use crate::keyword::{Keyword, OpWord};
+use crate::operation::operation;
 use crate::{Line, Script, Statement, field, words};
-use fs_model::Op;
 use std::alloc::{AllocError, Global};
 
 /// The most bytes that a script may have.
 pub const SCRIPT_LIMIT: usize = 67_108_864;
 
-fn mkcoll(rest: Option<&[u8]>) -> Result<Statement, LineFault>
-    ensures { Tells (mkcoll_said (pieces_left 32 rest.entry)) result }
-{
-    let c = field::collection(words::one(rest)?)?;
-    Ok(Statement::Do(Op::MkColl { c }))
-}
-
-fn touch(alloc: Global, rest: Option<&[u8]>) -> Result<Statement, LineFault>
-    ensures { Tells (touch_said (pieces_left 32 rest.entry)) result }
-{
-    let (c, o) = field::object(alloc, words::one(rest)?)?;
-    Ok(Statement::Do(Op::Touch { c, o }))
-}
-
-fn write(alloc: Global, rest: Option<&[u8]>) -> Result<Statement, LineFault>
-    ensures { Tells (write_said (pieces_left 32 rest.entry)) result }
-{
-    let (place, at, bytes) = words::three(rest)?;
-    let (c, o) = field::object(alloc, place)?;
-    let at = field::number(at)?;
-    let bytes = field::bytes(alloc, bytes)?;
-    Ok(Statement::Do(Op::Write { c, o, at, bytes }))
-}
-
-fn drain(rest: Option<&[u8]>) -> Result<Statement, LineFault>
-    ensures { Tells (drain_said (pieces_left 32 rest.entry)) result }
+// A statement that is one word.
+fn alone(rest: Option<&[u8]>, statement: Statement) -> Result<Statement, LineFault>
+    ensures { Tells (alone_said statement (pieces_left 32 rest.entry)) result }
 {
     words::none(rest)?;
-    Ok(Statement::Drain)
+    Ok(statement)
 }
 
 fn read(alloc: Global, rest: Option<&[u8]>) -> Result<Statement, LineFault>
@@ -53,6 +35,27 @@ fn read(alloc: Global, rest: Option<&[u8]>) -> Result<Statement, LineFault>
     Ok(Statement::Read { c, o, at, len })
 }
 
+fn stat(alloc: Global, rest: Option<&[u8]>) -> Result<Statement, LineFault>
+    ensures { Tells (stat_said (pieces_left 32 rest.entry)) result }
+{
+    let (c, o) = field::object(alloc, words::one(rest)?)?;
+    Ok(Statement::Stat { c, o })
+}
+
+fn attrs(alloc: Global, rest: Option<&[u8]>) -> Result<Statement, LineFault>
+    ensures { Tells (attrs_said (pieces_left 32 rest.entry)) result }
+{
+    let (c, o) = field::object(alloc, words::one(rest)?)?;
+    Ok(Statement::Attrs { c, o })
+}
+
+fn omap(alloc: Global, rest: Option<&[u8]>) -> Result<Statement, LineFault>
+    ensures { Tells (omap_said (pieces_left 32 rest.entry)) result }
+{
+    let (c, o) = field::object(alloc, words::one(rest)?)?;
+    Ok(Statement::Omap { c, o })
+}
+
 fn list(alloc: Global, rest: Option<&[u8]>) -> Result<Statement, LineFault>
     ensures { Tells (list_said (pieces_left 32 rest.entry)) result }
 {
@@ -63,69 +66,120 @@ fn list(alloc: Global, rest: Option<&[u8]>) -> Result<Statement, LineFault>
     Ok(Statement::List { c, cursor, max })
 }
 
-// What a line says, by its first word.
-#[tactic(auto, unfolding(crate::specs::Grammar::statement_said))]
-fn statement(alloc: Global, line: &[u8]) -> Result<Statement, LineFault>
-    ensures { Tells (statement_said (words_of line.now)) result }
+#[tactic(auto, unfolding(crate::specs::Keywords::keyword_said))]
+fn do_operation(alloc: Global, word: OpWord, rest: Option<&[u8]>) -> Result<Statement, LineFault>
+    ensures { Tells (keyword_said (Op word) (pieces_left 32 rest.entry)) result }
 {
-    let (word, rest) = cut(line, b' ');
-    if word == b"mkcoll".as_slice() {
-        mkcoll(rest)
-    } else if word == b"touch".as_slice() {
-        touch(alloc, rest)
-    } else if word == b"write".as_slice() {
-        write(alloc, rest)
-    } else if word == b"drain".as_slice() {
-        drain(rest)
-    } else if word == b"read".as_slice() {
-        read(alloc, rest)
-    } else if word == b"list".as_slice() {
-        list(alloc, rest)
-    } else {
-        Err(LineFault::Bad(ScriptWhy::UnknownWord))
+    let op = operation(alloc, word, rest)?;
+    Ok(Statement::Do(op))
+}
+
+// What a statement says, by its first word and the others.
+#[tactic(auto, unfolding(crate::specs::Keywords::keyword_said))]
+fn known(alloc: Global, keyword: Keyword, rest: Option<&[u8]>) -> Result<Statement, LineFault>
+    ensures { Tells (keyword_said keyword (pieces_left 32 rest.entry)) result }
+{
+    match keyword {
+        Keyword::Op(word) => do_operation(alloc, word, rest),
+        Keyword::Begin => alone(rest, Statement::Begin),
+        Keyword::End => alone(rest, Statement::End),
+        Keyword::Drain => alone(rest, Statement::Drain),
+        Keyword::Read => read(alloc, rest),
+        Keyword::Stat => stat(alloc, rest),
+        Keyword::Attrs => attrs(alloc, rest),
+        Keyword::Omap => omap(alloc, rest),
+        Keyword::List => list(alloc, rest),
+        Keyword::Colls => alone(rest, Statement::Colls),
+        Keyword::Acked => alone(rest, Statement::Acked),
     }
 }
 
+// What a line says, by its words.
+#[tactic(auto, unfolding(crate::specs::Grammar::statement_said))]
+fn statement(alloc: Global, line: &[u8], inside: bool) -> Result<Statement, LineFault>
+    ensures { Tells (statement_said inside (words_of line.now)) result }
+{
+    let (word, rest) = cut(line, b' ');
+    let Some(keyword) = Keyword::of(word) else {
+        return Err(LineFault::Bad(ScriptWhy::UnknownWord));
+    };
+    if let Some(why) = keyword.misplaced(inside) {
+        return Err(LineFault::Bad(why));
+    }
+    known(alloc, keyword, rest)
+}
+
 // What a line says, if anything.
-fn line(alloc: Global, line: &[u8]) -> Result<Option<Statement>, LineFault>
-    ensures { TellsLine (line_said line.now) result }
+fn line(alloc: Global, line: &[u8], inside: bool) -> Result<Option<Statement>, LineFault>
+    ensures { TellsLine (line_said inside line.now) result }
 {
     match line.first() {
         None | Some(b'#') => Ok(None),
-        Some(_) => Ok(Some(statement(alloc, line)?)),
+        Some(_) => Ok(Some(statement(alloc, line, inside)?)),
     }
 }
 
 // Adds the line of this number to a script, if it says anything.
-fn add(script: &mut Script, number: u64, said: Option<Statement>) -> Result<(), AllocError>
+fn add(
+    alloc: Global,
+    script: &mut Script,
+    number: u64,
+    said: Option<Statement>,
+) -> Result<(), AllocError>
     ensures { OnOk result (script.new ≡ script.old ++ line_if number said) }
 {
     match said {
         None => Ok(()),
-        Some(statement) => script.push(Line { number, statement }),
+        Some(statement) => script.push(alloc, Line { number, statement }),
+    }
+}
+
+// The line of the `begin` that has no `end` behind this line, if there is one.
+fn opened(number: u64, opened: Option<u64>, said: &Option<Statement>) -> Option<u64>
+    ensures { result ≡ opened_after number opened said.now }
+{
+    match said {
+        Some(Statement::Begin) => Some(number),
+        Some(Statement::End) => None,
+        _ => opened,
+    }
+}
+
+// A script behind its last line.
+fn ended(script: Script, opened: Option<u64>) -> Result<Script, ScriptFault>
+    ensures { TellsScript (ended script opened) result }
+{
+    match opened {
+        None => Ok(script),
+        Some(line) => Err(ScriptFault::Line {
+            line,
+            why: ScriptWhy::NoEnd,
+        }),
     }
 }
 
 // The lines of a text, the first of them with number 1.
 fn lines(alloc: Global, text: &[u8]) -> Result<Script, ScriptFault>
     requires { length text.now ≤ script_limit }
-    ensures { TellsScript (lines_said 1 (slice_split (λ b. b == 10) text.now)) result }
+    ensures { TellsScript (lines_said 1 None (slice_split (λ b. b == 10) text.now)) result }
 {
     let mut script = Script::new(alloc);
     let mut number: u64 = 1;
+    let mut begin = None;
     let mut rest = Some(text);
     while let Some(text) = rest {
         let (first, more) = cut(text, b'\n');
-        let said = match line(alloc, first) {
+        let said = match line(alloc, first, begin.is_some()) {
             Ok(said) => said,
             Err(LineFault::Bad(why)) => return Err(ScriptFault::Line { line: number, why }),
             Err(LineFault::Memory) => return Err(ScriptFault::Memory),
         };
-        add(&mut script, number, said)?;
+        begin = opened(number, begin, &said);
+        add(alloc, &mut script, number, said)?;
         number += 1;
         rest = more;
     }
-    Ok(script)
+    ended(script, begin)
 }
 
 /// Reads a script. The first refused line counts; a script of more than 67,108,864 bytes is refused before all lines.

@@ -1,226 +1,469 @@
 use crate::{
-    Answer, Cursor, ScriptFault, ScriptWhy, Statement, parse_script, print_answer, print_refusal,
+    Answer, Cursor, Line, ScriptFault, ScriptWhy, Statement, parse_script, print_answer,
+    print_refusal,
 };
-use fs_model::{Blob, OidList, Op, Why};
+use fs_model::{Blob, CollNames, OidList, Op, Pair, PairList, Why};
 use fs_names::{Coll, decode_oid};
+use std::alloc::Global;
 use std::test::Fail;
 
-const A: &[u8] = b"a__head_00000001__1";
+/// Whether this script is refused at this line for this reason.
+fn refuses(alloc: Global, script: &str, number: u64, reason: ScriptWhy) -> bool {
+    match parse_script(alloc, script.as_bytes()) {
+        Err(ScriptFault::Line { line, why }) => line == number && why == reason,
+        _ => false,
+    }
+}
+
+const REFUSED: [(&str, u64, ScriptWhy); 31] = [
+    ("wirte x", 1, ScriptWhy::UnknownWord),
+    ("\n# a note\n drain", 3, ScriptWhy::UnknownWord),
+    ("drain\nwirte x", 2, ScriptWhy::UnknownWord),
+    ("turn sync", 1, ScriptWhy::UnknownWord),
+    ("begin\nwirte x\nend", 2, ScriptWhy::UnknownWord),
+    ("begin\nbegin\nend", 2, ScriptWhy::NotInTransaction),
+    ("begin\ndrain now\nend", 2, ScriptWhy::NotInTransaction),
+    (
+        "begin\nmkcoll meta\nlist meta - x",
+        3,
+        ScriptWhy::NotInTransaction,
+    ),
+    ("end", 1, ScriptWhy::EndWithoutBegin),
+    ("begin\nend\nend now", 3, ScriptWhy::EndWithoutBegin),
+    ("begin now\nend", 1, ScriptWhy::WrongCount),
+    ("begin\nend now", 2, ScriptWhy::WrongCount),
+    ("mkcoll  1.0_head", 1, ScriptWhy::WrongCount),
+    ("mkcoll 1.0_head ", 1, ScriptWhy::WrongCount),
+    ("list 1.0_heat - 10", 1, ScriptWhy::BadCollection),
+    ("mkcoll 01.0_head", 1, ScriptWhy::BadCollection),
+    ("touch 1.0_head", 1, ScriptWhy::BadObject),
+    ("stat 1.0_heat/a__head_00000001__1", 1, ScriptWhy::BadObject),
+    ("attrs 1.0_head/a__head_0000001__1", 1, ScriptWhy::BadObject),
+    (
+        "omap 1.0_head/a__head_00000001__1/",
+        1,
+        ScriptWhy::BadObject,
+    ),
+    (
+        "clone 1.0_head/a__head_00000001__1 a",
+        1,
+        ScriptWhy::BadObject,
+    ),
+    (
+        "list 1.0_head 1.0_head/a__head_00000001__1 x",
+        1,
+        ScriptWhy::BadObject,
+    ),
+    (
+        "write 1.0_head/a__head_00000001__1 00 x",
+        1,
+        ScriptWhy::BadNumber,
+    ),
+    (
+        "read 1.0_head/a__head_00000001__1 0 18446744073709551616",
+        1,
+        ScriptWhy::BadNumber,
+    ),
+    ("list 1.0_head - 4294967296", 1, ScriptWhy::BadNumber),
+    (
+        "write 1.0_head/a__head_00000001__1 -1 68",
+        1,
+        ScriptWhy::BadNumber,
+    ),
+    (
+        "rmattr 1.0_head/a__head_00000001__1 68",
+        1,
+        ScriptWhy::BadBytes,
+    ),
+    (
+        "setattr 1.0_head/a__head_00000001__1 x68 x6",
+        1,
+        ScriptWhy::BadBytes,
+    ),
+    (
+        "omapset 1.0_head/a__head_00000001__1 xAB x68 x",
+        1,
+        ScriptWhy::BadBytes,
+    ),
+    ("begin\nmkcoll meta", 1, ScriptWhy::NoEnd),
+    ("drain\nbegin\nend\nbegin", 4, ScriptWhy::NoEnd),
+];
 
 #[test]
 fn each_refused_line_has_its_number_and_its_reason(rt: HostRuntime) -> Result<(), Fail> {
-    let cases = [
-        ("wirte x", 1, ScriptWhy::UnknownWord),
-        ("\n# a note\n drain", 3, ScriptWhy::UnknownWord),
-        ("drain\ntouch", 2, ScriptWhy::WrongCount),
-        ("drain now", 1, ScriptWhy::WrongCount),
-        ("mkcoll 1.0_head 2.0_head", 1, ScriptWhy::WrongCount),
-        ("mkcoll  1.0_head", 1, ScriptWhy::WrongCount),
-        (
-            "read 1.0_head/a__head_00000001__1 0",
-            1,
-            ScriptWhy::WrongCount,
-        ),
-        ("mkcoll 01.0_head", 1, ScriptWhy::BadCollection),
-        ("list 1.0_heat - 10", 1, ScriptWhy::BadCollection),
-        ("touch 1.0_head", 1, ScriptWhy::BadObject),
-        (
-            "touch 1.0_heat/a__head_00000001__1",
-            1,
-            ScriptWhy::BadObject,
-        ),
-        ("touch 1.0_head/a__head_0000001__1", 1, ScriptWhy::BadObject),
-        (
-            "touch 1.0_head/a__head_00000001__1/",
-            1,
-            ScriptWhy::BadObject,
-        ),
-        (
-            "list 1.0_head 1.0_head/a__head_00000001__1 10",
-            1,
-            ScriptWhy::BadObject,
-        ),
-        (
-            "write 1.0_head/a__head_00000001__1 00 x",
-            1,
-            ScriptWhy::BadNumber,
-        ),
-        (
-            "read 1.0_head/a__head_00000001__1 0 18446744073709551616",
-            1,
-            ScriptWhy::BadNumber,
-        ),
-        ("list 1.0_head - 4294967296", 1, ScriptWhy::BadNumber),
-        (
-            "write 1.0_head/a__head_00000001__1 0 68",
-            1,
-            ScriptWhy::BadBytes,
-        ),
-        (
-            "write 1.0_head/a__head_00000001__1 0 x6",
-            1,
-            ScriptWhy::BadBytes,
-        ),
-        (
-            "write 1.0_head/a__head_00000001__1 0 xAB",
-            1,
-            ScriptWhy::BadBytes,
-        ),
-        // The first field from the left counts.
-        ("write 1.0_head/a -1 68", 1, ScriptWhy::BadObject),
-        (
-            "write 1.0_head/a__head_00000001__1 -1 68",
-            1,
-            ScriptWhy::BadNumber,
-        ),
-    ];
-    for (script, number, reason) in cases {
-        match parse_script(rt.alloc(), script.as_bytes()) {
-            Err(ScriptFault::Line { line, why }) => assert!(rt;
-                line == number && why == reason,
-                "{script}: {line} {why:?}"
-            ),
-            _ => assert!(rt; false, "{script}"),
-        }
+    for (script, line, why) in REFUSED {
+        assert!(rt; refuses(rt.alloc(), script, line, why), "{script}");
     }
     Ok(())
 }
 
-fn is_write_of_two_bytes(statement: &Statement) -> bool {
-    match statement {
-        Statement::Do(Op::Write { at, bytes, .. }) => *at == 4
-            && bytes.slice() == [0, 255].as_slice(),
+// Each statement with a word too few, and with a word too many.
+const MISCOUNTED: [&str; 52] = [
+    "touch",
+    "touch a b",
+    "write a b",
+    "write a b c d",
+    "zero a b",
+    "zero a b c d",
+    "truncate a",
+    "truncate a b c",
+    "remove",
+    "remove a b",
+    "rmattr a",
+    "rmattr a b c",
+    "rmattrs",
+    "rmattrs a b",
+    "clone a",
+    "clone a b c",
+    "clonerange a b c d",
+    "clonerange a b c d e f",
+    "move a",
+    "move a b c",
+    "mkcoll",
+    "mkcoll a b",
+    "rmcoll",
+    "rmcoll a b",
+    "omapclear",
+    "omapclear a b",
+    "omaprange a b",
+    "omaprange a b c d",
+    "drain a",
+    "read a b",
+    "read a b c d",
+    "stat",
+    "stat a b",
+    "attrs",
+    "attrs a b",
+    "omap",
+    "omap a b",
+    "list a b",
+    "list a b c d",
+    "colls a",
+    "acked a",
+    "begin a",
+    "setattr",
+    "setattr a",
+    "setattr a b",
+    "setattr a b c d",
+    "omapset",
+    "omapset a",
+    "omapset a b c",
+    "omapset a b c d e",
+    "omaprm",
+    "omaprm a",
+];
+
+#[test]
+fn too_few_and_too_many_words_are_refused_before_any_field(rt: HostRuntime) -> Result<(), Fail> {
+    for script in MISCOUNTED {
+        assert!(rt;
+            refuses(rt.alloc(), script, 1, ScriptWhy::WrongCount),
+            "{script}"
+        );
+    }
+    Ok(())
+}
+
+/// Whether this script has so many lines that say something.
+fn has_lines(alloc: Global, script: &str, count: usize) -> bool {
+    match parse_script(alloc, script.as_bytes()) {
+        Ok(script) => script.len() == count && script.is_empty() == (count == 0),
+        Err(_) => false,
+    }
+}
+
+const TAKEN: [(&str, usize); 4] = [
+    ("", 0),
+    ("\n# a note\n\n#drain now", 0),
+    (
+        "mkcoll 2.10_head\n\
+        begin\n\
+        omapset 2.10_head/__head_00000010__2 - x303030372e31 x0102\n\
+        write 2.10_head/rbd\\udata.1f2e6b8b4567.0000000000000000__head_7C2A9D10__2 4096 x00ff\n\
+        setattr 2.10_head/rbd\\udata.1f2e6b8b4567.0000000000000000__head_7C2A9D10__2 x5f x01 x736e6170736574 x02\n\
+        end\n\
+        drain\n\
+        stat 2.10_head/rbd\\udata.1f2e6b8b4567.0000000000000000__head_7C2A9D10__2\n\
+        attrs 2.10_head/rbd\\udata.1f2e6b8b4567.0000000000000000__head_7C2A9D10__2\n\
+        omap 2.10_head/__head_00000010__2\n\
+        list 2.10_head - 10\n",
+        11,
+    ),
+    (
+        "touch 9.0_head/a__head_00000001__1\n\
+        begin\n\
+        end\n\
+        mkcoll 1.0_head\n\
+        mkcoll 1.0_head\n\
+        clone 1.0_head/a__head_00000001__1 1.0_head/a__head_00000001__1\n\
+        truncate 1.0_head/a__head_00000001__1 16777217",
+        7,
+    ),
+];
+
+#[test]
+fn whole_scripts_are_taken(rt: HostRuntime) -> Result<(), Fail> {
+    for (script, count) in TAKEN {
+        assert!(rt; has_lines(rt.alloc(), script, count), "{script}");
+    }
+    Ok(())
+}
+
+/// The first line of a script that says something.
+fn first(alloc: Global, script: &str) -> Option<Line> {
+    match parse_script(alloc, script.as_bytes()) {
+        Ok(mut script) => script.next(),
+        Err(_) => None,
+    }
+}
+
+fn says_write(alloc: Global) -> bool {
+    match first(
+        alloc,
+        "\n# a note\nwrite 1.0_head/a__head_00000001__1 4 x00ff",
+    ) {
+        Some(
+            Line {
+                number: 3,
+                statement: Statement::Do(Op::Write { at: 4, bytes, .. }),
+            },
+        ) => bytes.slice() == [0, 255].as_slice(),
+        _ => false,
+    }
+}
+
+fn says_clone_range(alloc: Global) -> bool {
+    let script = "clonerange 1.0_head/a__head_00000001__1 meta/b__head_00000002__1 1 2 3";
+    match first(alloc, script) {
+        Some(
+            Line {
+                number: 1,
+                statement: Statement::Do(
+                    Op::CloneRange {
+                        c2: Coll::Meta,
+                        from: 1,
+                        len: 2,
+                        to: 3,
+                        ..
+                    },
+                ),
+            },
+        ) => true,
+        _ => false,
+    }
+}
+
+fn says_omap_range(alloc: Global) -> bool {
+    match first(alloc, "omaprange 1.0_head/a__head_00000001__1 x61 x") {
+        Some(
+            Line {
+                number: 1,
+                statement: Statement::Do(Op::OmapRange { from, to, .. }),
+            },
+        ) => from.slice() == b"a".as_slice() && to.slice().is_empty(),
+        _ => false,
+    }
+}
+
+fn says_read(alloc: Global) -> bool {
+    match first(alloc, "read 1.0_head/a__head_00000001__1 0 5\n") {
+        Some(
+            Line {
+                number: 1,
+                statement: Statement::Read { at: 0, len: 5, .. },
+            },
+        ) => true,
+        _ => false,
+    }
+}
+
+fn says_list(alloc: Global) -> bool {
+    match first(alloc, "list meta a__head_00000001__1 3") {
+        Some(
+            Line {
+                number: 1,
+                statement: Statement::List {
+                    c: Coll::Meta,
+                    cursor: Cursor::At(_),
+                    max: 3,
+                },
+            },
+        ) => true,
         _ => false,
     }
 }
 
 #[test]
-fn lines_that_say_something_are_read(rt: HostRuntime) -> Result<(), Fail> {
-    let text =
-        b"mkcoll meta\n\n# a note\nwrite 1.0_head/a__head_00000001__1 4 x00ff\nread 1.0_head/a__head_00000001__1 0 5\nlist 1.0_head a__head_00000001__1 3\ntouch 1.0_head/a__head_00000001__1\ndrain";
-    let Ok(mut script) = parse_script(rt.alloc(), text) else {
-        return Err(Fail::from("refused"));
+fn fields_stand_in_their_order(rt: HostRuntime) -> Result<(), Fail> {
+    assert!(rt; says_write(rt.alloc()));
+    assert!(rt; says_clone_range(rt.alloc()));
+    assert!(rt; says_omap_range(rt.alloc()));
+    assert!(rt; says_read(rt.alloc()));
+    assert!(rt; says_list(rt.alloc()));
+    Ok(())
+}
+
+/// Whether an answer prints this text.
+fn prints(alloc: Global, answer: Answer, text: &str) -> bool {
+    match print_answer(alloc, &answer) {
+        Ok(printed) => printed.slice() == text.as_bytes(),
+        Err(_) => false,
+    }
+}
+
+fn bytes(alloc: Global, bytes: &[u8]) -> Result<Blob, Fail> {
+    Ok(Blob::new(alloc, bytes)?)
+}
+
+fn one_pair(alloc: Global) -> Result<PairList, Fail> {
+    let key = bytes(alloc, b"_")?;
+    let value = bytes(alloc, &[1, 255])?;
+    Ok(PairList::from_vec(vec![in alloc; Pair { key, value }]?))
+}
+
+const A: &[u8] = b"a__head_00000001__1";
+
+fn page(alloc: Global) -> Result<Answer, Fail> {
+    let (Ok(first), Ok(second)) = (decode_oid(alloc, A), decode_oid(alloc, A)) else {
+        return Err(Fail::from("no name"));
     };
-    assert_eq!(rt; script.len(), 6);
-    assert!(rt; !script.is_empty());
-    let Some(first) = script.next() else {
-        return Err(Fail::from("no line"));
-    };
+    let oids = OidList::from_vec(vec![in alloc; first]?);
+    Ok(Answer::Listed {
+        oids,
+        next: Some(second),
+    })
+}
+
+fn omap(alloc: Global) -> Result<Answer, Fail> {
+    let header = bytes(alloc, b"h")?;
+    let pairs = one_pair(alloc)?;
+    Ok(Answer::Omap { header, pairs })
+}
+
+fn colls(alloc: Global) -> Result<Answer, Fail> {
+    let colls = vec![in alloc; Coll::Meta]?;
+    Ok(Answer::Colls(CollNames::from_vec(colls)))
+}
+
+#[test]
+fn each_number_and_word_is_printed(rt: HostRuntime) -> Result<(), Fail> {
+    let alloc = rt.alloc();
+    assert!(rt; prints(alloc, Answer::Queued { seq: 7 }, "queued 7\n"));
     assert!(rt;
-        first.number == 1 && matches!(first.statement, Statement::Do(Op::MkColl { c: Coll::Meta }))
+        prints(
+            alloc,
+            Answer::TooLarge {
+                need: 20_480,
+                size: 16_384
+            },
+            "refused too large 20480 16384\n"
+        )
     );
-    let Some(second) = script.next() else {
-        return Err(Fail::from("no line"));
-    };
-    assert!(rt; second.number == 4 && is_write_of_two_bytes(&second.statement));
-    let Some(third) = script.next() else {
-        return Err(Fail::from("no line"));
-    };
     assert!(rt;
-        third.number == 5 && matches!(third.statement, Statement::Read { at: 0, len: 5, .. })
+        prints(
+            alloc,
+            Answer::RingFull {
+                need: 16_384,
+                free: 12_288
+            },
+            "refused ring full 16384 12288\n"
+        )
     );
-    let Some(fourth) = script.next() else {
-        return Err(Fail::from("no line"));
-    };
+    assert!(rt; prints(alloc, Answer::QueueFull, "refused queue full\n"));
+    assert!(rt; prints(alloc, Answer::NumbersSpent, "refused numbers spent\n"));
     assert!(rt;
-        fourth.number == 6
-            && matches!(
-                fourth.statement,
-                Statement::List {
-                    cursor: Cursor::At(_),
-                    max: 3,
-                    ..
-                }
-            )
+        prints(
+            alloc,
+            Answer::Drained { acked: 2, seq: 3 },
+            "ack 2\ndrained 3\n"
+        )
     );
+    assert!(rt; prints(alloc, Answer::Size(4098), "size 4098\n"));
+    assert!(rt; prints(alloc, Answer::Acked { acked: 5 }, "acked 5\n"));
+    assert!(rt; prints(alloc, Answer::Missing, "none\n"));
+    Ok(())
+}
+
+const REASONS: [(Why, &str); 6] = [
+    (Why::Empty, "refused op 3 empty\n"),
+    (Why::NoCollection, "refused op 3 no collection\n"),
+    (Why::CollectionExists, "refused op 3 collection exists\n"),
+    (Why::SameObject, "refused op 3 same object\n"),
+    (Why::TooBig, "refused op 3 too big\n"),
+    (Why::TooMany, "refused op 3 too many\n"),
+];
+
+#[test]
+fn each_reason_is_printed(rt: HostRuntime) -> Result<(), Fail> {
+    for (why, text) in REASONS {
+        assert!(rt;
+            prints(rt.alloc(), Answer::RefusedOp { op: 3, why }, text),
+            "{text}"
+        );
+    }
     Ok(())
 }
 
 #[test]
-fn each_answer_prints_its_lines(rt: HostRuntime) -> Result<(), Fail> {
+fn lists_are_printed_line_by_line(rt: HostRuntime) -> Result<(), Fail> {
     let alloc = rt.alloc();
-    let (Ok(first), Ok(second)) = (decode_oid(alloc, A), decode_oid(alloc, A)) else {
-        return Err(Fail::from("no name"));
-    };
-    let listed = Answer::Listed {
-        oids: OidList::from_vec(vec![in alloc; first]?),
-        next: Some(second),
-    };
-    let cases = [
-        (Answer::Queued { seq: 7 }, "queued 7\n"),
-        (
-            Answer::RefusedOp {
-                op: 3,
-                why: Why::NoCollection,
-            },
-            "refused op 3 no collection\n",
-        ),
-        (
-            Answer::RefusedOp {
-                op: 0,
-                why: Why::CollectionExists,
-            },
-            "refused op 0 collection exists\n",
-        ),
-        (
-            Answer::RefusedOp {
-                op: 0,
-                why: Why::Empty,
-            },
-            "refused op 0 empty\n",
-        ),
-        (
-            Answer::RefusedOp {
-                op: 0,
-                why: Why::TooBig,
-            },
-            "refused op 0 too big\n",
-        ),
-        (
-            Answer::RefusedOp {
-                op: 4096,
-                why: Why::TooMany,
-            },
-            "refused op 4096 too many\n",
-        ),
-        (
-            Answer::TooLarge {
-                need: 20_480,
-                size: 16_384,
-            },
-            "refused too large 20480 16384\n",
-        ),
-        (
-            Answer::RingFull {
-                need: 16_384,
-                free: 12_288,
-            },
-            "refused ring full 16384 12288\n",
-        ),
-        (Answer::QueueFull, "refused queue full\n"),
-        (Answer::NumbersSpent, "refused numbers spent\n"),
-        (Answer::Drained { acked: 2, seq: 2 }, "ack 2\ndrained 2\n"),
-        (
-            Answer::Bytes(Blob::new(alloc, b"hello")?),
-            "data x68656c6c6f\n",
-        ),
-        (
-            listed,
-            "list 1\na__head_00000001__1\nnext a__head_00000001__1\n",
-        ),
-        (Answer::Missing, "none\n"),
-    ];
-    for (answer, text) in &cases {
-        let printed = print_answer(alloc, answer)?;
-        assert!(rt; printed.slice() == text.as_bytes(), "{text}");
+    assert!(rt;
+        prints(
+            alloc,
+            page(alloc)?,
+            "list 1\na__head_00000001__1\nnext a__head_00000001__1\n"
+        )
+    );
+    assert!(rt; prints(alloc, omap(alloc)?, "omap x68 1\npair x5f x01ff\n"));
+    assert!(rt; prints(alloc, colls(alloc)?, "colls 1\nmeta\n"));
+    assert!(rt;
+        prints(
+            alloc,
+            Answer::Attrs(one_pair(alloc)?),
+            "attrs 1\nattr x5f x01ff\n"
+        )
+    );
+    assert!(rt;
+        prints(
+            alloc,
+            Answer::Bytes(bytes(alloc, b"hello")?),
+            "data x68656c6c6f\n"
+        )
+    );
+    Ok(())
+}
+
+/// Whether a refusal prints this text.
+fn prints_refusal(alloc: Global, line: u64, why: ScriptWhy, text: &str) -> bool {
+    match print_refusal(alloc, line, why) {
+        Ok(printed) => printed.slice() == text.as_bytes(),
+        Err(_) => false,
     }
-    assert!(rt;
-        print_refusal(alloc, 2, ScriptWhy::UnknownWord)?.slice()
-            == b"script: line 2: unknown word\n".as_slice()
-    );
-    assert!(rt;
-        print_refusal(alloc, 0, ScriptWhy::TooLong)?.slice()
-            == b"script: line 0: too long\n".as_slice()
-    );
+}
+
+const REFUSALS: [(ScriptWhy, &str); 10] = [
+    (ScriptWhy::UnknownWord, "script: line 2: unknown word\n"),
+    (
+        ScriptWhy::NotInTransaction,
+        "script: line 2: not in a transaction\n",
+    ),
+    (
+        ScriptWhy::EndWithoutBegin,
+        "script: line 2: end without begin\n",
+    ),
+    (ScriptWhy::WrongCount, "script: line 2: wrong count\n"),
+    (ScriptWhy::BadCollection, "script: line 2: bad collection\n"),
+    (ScriptWhy::BadObject, "script: line 2: bad object\n"),
+    (ScriptWhy::BadNumber, "script: line 2: bad number\n"),
+    (ScriptWhy::BadBytes, "script: line 2: bad bytes\n"),
+    (ScriptWhy::NoEnd, "script: line 2: no end\n"),
+    (ScriptWhy::TooLong, "script: line 2: too long\n"),
+];
+
+#[test]
+fn each_refusal_is_printed(rt: HostRuntime) -> Result<(), Fail> {
+    for (why, text) in REFUSALS {
+        assert!(rt; prints_refusal(rt.alloc(), 2, why, text), "{text}");
+    }
     Ok(())
 }

@@ -1,3 +1,3 @@
-pub mod Told
+pub mod Flow
 pub mod Pieces
 pub mod Memory

@@ -1,4 +1,4 @@
-ghost use Rattle.std.specs.Prelude.{◌≡◌, ◌<◌, ◌≤◌, ◌-◌, ◌^◌, ◌++◌, ◌⊎◌, ◌↔◌, [], length, Some, take, min, is_err, IsErr, IfOk, OnErr};
+ghost use Rattle.std.specs.Prelude.{◌≡◌, ◌<◌, ◌≤◌, ◌-◌, ◌^◌, ◌++◌, ◌⊎◌, ◌↔◌, [], length, take, min, is_err, IsErr, IfOk, OnErr};
 ghost use Rattle.io_edge.specs.Memory.{FailsNext, IsFull, first_plan, after_call};
 
 use crate::{IoFailed, Sink};
@@ -54,9 +54,9 @@ impl MemorySink {
 }
 
 impl Sink for MemorySink {
-    ghost written = { λ s. Some s.written };
+    ghost tells = { λ _. Unit {0} };
 
-    ghost faults = { λ s. s.plan.faults };
+    ghost out = { λ s. record { written = s.written; faults = s.plan.faults } };
 
     fn write(&mut self, piece: &[u8]) -> Result<usize, IoFailed>
         ensures fails { IsErr result ↔ (FailsNext self.old.plan ⊎ IsFull self.old piece.now) }

@@ -1,4 +1,4 @@
-ghost use Rattle.std.specs.Prelude.{◌≡◌, ◌<◌, ◌≤◌, ◌^◌, ◌++◌, ◌↔◌, length, Some, take, drop, min, is_err, IsErr, IfOk, OnErr};
+ghost use Rattle.std.specs.Prelude.{◌≡◌, ◌<◌, ◌≤◌, ◌^◌, ◌++◌, ◌↔◌, length, take, drop, min, is_err, IsErr, IfOk, OnErr};
 ghost use Rattle.io_edge.specs.Memory.{FailsNext, first_plan, after_call};
 
 use crate::{IoFailed, Source};
@@ -45,9 +45,9 @@ impl MemorySource {
 }
 
 impl Source for MemorySource {
-    ghost left = { λ s. Some s.left };
+    ghost tells = { λ _. Unit {0} };
 
-    ghost faults = { λ s. s.plan.faults };
+    ghost inflow = { λ s. record { left = s.left; faults = s.plan.faults } };
 
     fn read(&mut self, into: &mut [u8]) -> Result<usize, IoFailed>
         ensures fails { IsErr result ↔ FailsNext self.old.plan }

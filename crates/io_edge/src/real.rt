@@ -1,4 +1,4 @@
-ghost use Rattle.std.specs.Prelude.{◌≡◌, ◌<◌, ◌≤◌, length, None, is_err, IfOk, if◌then◌else◌};
+ghost use Rattle.std.specs.Prelude.{◌≡◌, ◌<◌, ◌≤◌, [], length, is_err, IfOk, if◌then◌else◌};
 ghost use Rattle.fault_count.specs.Counted.{one_more};
 
 use crate::{IoFailed, Sink, Source};
@@ -35,9 +35,9 @@ impl<R: Input> RealSource<R> {
 }
 
 impl<R: Input> Source for RealSource<R> {
-    ghost left = { λ _. None };
+    ghost tells = { λ _. ⊥ };
 
-    ghost faults = { λ faults. faults };
+    ghost inflow = { λ faults. record { left = []; faults = faults } };
 
     fn read(&mut self, into: &mut [u8]) -> Result<usize, IoFailed>
         ensures within { IfOk result (λ n. n ≤ length into.old) }
@@ -83,9 +83,9 @@ impl<R: Print> RealSink<R> {
 }
 
 impl<R: Print> Sink for RealSink<R> {
-    ghost written = { λ _. None };
+    ghost tells = { λ _. ⊥ };
 
-    ghost faults = { λ faults. faults };
+    ghost out = { λ faults. record { written = []; faults = faults } };
 
     fn write(&mut self, piece: &[u8]) -> Result<usize, IoFailed>
         ensures within { IfOk result (λ n. n ≤ length piece.now) }

@@ -1,7 +1,7 @@
-ghost use Rattle.std.specs.Prelude.{◌≡◌, ℕ, ◌<◌, ◌≤◌, List, [], length, vec_len, Option, IfSome, IfOk, OnOk, OnErr, IsErrOf};
+ghost use Rattle.std.specs.Prelude.{◌≡◌, ◌<◌, ◌≤◌, [], Ok, length, vec_len, IfOk, OnOk, OnErr, IsErrOf};
 ghost use Rattle.fault_count.specs.Counted.{Counted};
-ghost use Rattle.io_edge.specs.Told.{without_first};
-ghost use Rattle.io_edge.specs.Pieces.{Fills, IsLater, IsPast};
+ghost use Rattle.io_edge.specs.Flow.{Inflow};
+ghost use Rattle.io_edge.specs.Pieces.{Gives, IsLater, IsPast};
 ghost use Rattle.io_edge.specs.declared.source.ReadFault.TheVariants.{Failed, Memory, TooLong};
 
 use crate::{IoFailed, Text};
@@ -9,27 +9,27 @@ use std::alloc::{AllocError, Global};
 
 /// Bytes that come in.
 pub trait Source {
-    /// The bytes that are left, where they are told.
-    ghost left: { Self → Option (List ℕ) };
+    /// It tells its bytes, up to now. It may fall at any call, and no code can tell.
+    ghost tells: { Self → Type 0 };
 
-    /// How many faults were counted.
-    ghost faults: { Self → ℕ };
+    /// The bytes that are left, where it tells them, and how often it has failed.
+    ghost inflow: { Self → Inflow };
 
     /// Reads the next bytes into the front of the piece, and answers how many. They may fill it in part only, though more
     /// are left.
     fn read(&mut self, into: &mut [u8]) -> Result<usize, IoFailed>
         ensures within { IfOk result (λ n. n ≤ length into.old) }
-        ensures bytes { IfOk result (λ n. IfSome (left self.old) (Fills into.old into.new n)) }
-        ensures moves_on { IfOk result (λ n. left self.new ≡ without_first n (left self.old)) }
+        ensures gives { tells self.new → IfOk result (λ n. Gives (inflow self.old) (inflow self.new) n into.old into.new) }
 
         // Of a piece that isn't empty it gives nothing only at the end.
-        ensures end { result ≡ Ok 0 → 0 < length into.old → IfSome (left self.old) (λ bytes. bytes ≡ []) }
+        ensures end { tells self.new → result ≡ Ok 0 → 0 < length into.old → (inflow self.old).left ≡ [] }
 
         // A failed read gives nothing.
-        ensures stays { OnErr result (left self.new ≡ left self.old) }
-        ensures untouched { OnErr result (IfSome (left self.old) (λ _. into.new ≡ into.old)) }
-        ensures later { faults self.old ≤ faults self.new }
-        ensures cause { OnErr result (Counted (faults self.old) (faults self.new)) };
+        ensures stays { tells self.new → OnErr result ((inflow self.new).left ≡ (inflow self.old).left) }
+        ensures untouched { tells self.new → OnErr result (into.new ≡ into.old) }
+        ensures honest { tells self.new → tells self.old }
+        ensures later { (inflow self.old).faults ≤ (inflow self.new).faults }
+        ensures cause { OnErr result (Counted (inflow self.old).faults (inflow self.new).faults) };
 }
 
 /// Why a source wasn't read to its end.
@@ -70,18 +70,19 @@ fn new_piece(alloc: Global) -> Result<Vec<u8>, AllocError>
 
 /// Reads a source to its end, if at most `limit` bytes are left.
 pub fn read_all<S: Source>(alloc: Global, source: &mut S, limit: usize) -> Result<Text, ReadFault>
-    ensures whole { IfOk result (λ text. IfSome (S.left source.old) (λ bytes. text ≡ bytes)) }
-    ensures end { OnOk result (IfSome (S.left source.old) (λ _. S.left source.new ≡ Some [])) }
+    ensures whole { S.tells source.new → IfOk result (λ text. text ≡ (S.inflow source.old).left) }
+    ensures end { S.tells source.new → OnOk result ((S.inflow source.new).left ≡ []) }
     ensures within { IfOk result (λ text. length text ≤ limit) }
 
     // It is too long only where more bytes were left, and then more were read.
-    ensures too_long { IsErrOf result ReadFault.TooLong →
-        IfSome (S.left source.old) (IsPast limit (S.left source.new)) }
-    ensures failed { IsErrOf result ReadFault.Failed → Counted (S.faults source.old) (S.faults source.new) }
+    ensures too_long { S.tells source.new → IsErrOf result ReadFault.TooLong
+        → IsPast limit (S.inflow source.old) (S.inflow source.new) }
+    ensures failed { IsErrOf result ReadFault.Failed → Counted (S.inflow source.old).faults (S.inflow source.new).faults }
 
     // Whatever it answers, some rest is left.
-    ensures rest { IsLater (S.left source.old) (S.left source.new) }
-    ensures later { S.faults source.old ≤ S.faults source.new }
+    ensures rest { S.tells source.new → IsLater (S.inflow source.old) (S.inflow source.new) }
+    ensures honest { S.tells source.new → S.tells source.old }
+    ensures later { (S.inflow source.old).faults ≤ (S.inflow source.new).faults }
 {
     let mut piece = new_piece(alloc)?;
     let mut bytes = Vec::new(alloc);

@@ -1,4 +1,5 @@
 pub mod Carried
+pub mod Examples
 pub mod Keeps
 pub mod Places
 pub mod Settled

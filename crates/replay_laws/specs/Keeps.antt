@@ -32,7 +32,8 @@ pub record Goes {C V : Type 0} (c : Case C V) (k : ℕ) (old new : C → V) (gua
   pub all_copied : (z y : C) → Source (act c k z) y → k < passed_now z
 
 -- the op at k has not come to x, or has gone past it once what it copies from x is for good
-abbrev pub Reached : {C V : Type 0} → Case C V → ℕ → (C → V) → (C → V) → (C → ℕ) → (C → ℕ) → (C → ℕ) → (C → ℕ) → C → Type 0
+abbrev pub Reached : {C V : Type 0} → Case C V → ℕ → (C → V) → (C → V) → (C → ℕ) → (C → ℕ) → (C → ℕ) → (C → ℕ) → C
+    → Type 0
 Reached {C} c k old new guards guards_now passed passed_now x =
     (new x ≡ old x) × (guards_now x ≡ guards x)
     ⊎ Given c (Copied c passed) (guards x) k old x (new x) × Guarded c k (guards x) (guards_now x) x × ((z : C) → Source (act c k z) x → k < passed_now z)
@@ -47,10 +48,16 @@ pub record KeepsLaw (C V : Type 0) : Type 0 where
   -- what a crash may leave is a good start
   pub good : (c : Case C V) (passed : C → ℕ) → At c zero c.start c.skips passed → GoodStart c
   -- an op keeps it, live and on replay
-  pub keeps : (c : Case C V) → Raises c.raise → (k : ℕ) → k < length c.ops → (old new : C → V) (guards guards_now passed passed_now : C → ℕ) → At c k old guards passed → Goes c k old new guards guards_now passed passed_now → At c (suc k) new guards_now passed_now
+  pub keeps : (c : Case C V) → Raises c.raise → (k : ℕ) → k < length c.ops
+      → (old new : C → V) (guards guards_now passed passed_now : C → ℕ) → At c k old guards passed
+      → Goes c k old new guards guards_now passed passed_now → At c (suc k) new guards_now passed_now
   -- and so does each moment within one
-  pub keeps_within : (c : Case C V) → Raises c.raise → (k : ℕ) → k < length c.ops → (old new : C → V) (guards guards_now passed passed_now : C → ℕ) → At c k old guards passed → GoesPart c k old new guards guards_now passed passed_now → At c k new guards_now passed_now
+  pub keeps_within : (c : Case C V) → Raises c.raise → (k : ℕ) → k < length c.ops
+      → (old new : C → V) (guards guards_now passed passed_now : C → ℕ) → At c k old guards passed
+      → GoesPart c k old new guards guards_now passed passed_now → At c k new guards_now passed_now
   -- so it holds in the midst of a replay too, where a crash begins the next one at 0
-  pub anew : (c : Case C V) (k : ℕ) (cells : C → V) (guards passed : C → ℕ) → At c k cells guards passed → At c zero cells guards passed
+  pub anew : (c : Case C V) (k : ℕ) (cells : C → V) (guards passed : C → ℕ) → At c k cells guards passed
+      → At c zero cells guards passed
   -- past the last op the cells are those of the fold
-  pub ends : (c : Case C V) (cells : C → V) (guards passed : C → ℕ) → At c (length c.ops) cells guards passed → (x : C) → cells x ≡ fold c.raise c.ops c.before x
+  pub ends : (c : Case C V) (cells : C → V) (guards passed : C → ℕ) → At c (length c.ops) cells guards passed → (x : C)
+      → cells x ≡ fold c.raise c.ops c.before x

@@ -1,3 +1,4 @@
+pub mod Examples
 pub mod Keeps
 pub mod Places
 pub mod Replay

@@ -9,6 +9,7 @@
 //! explains all of it from nothing.
 #![tactic(auto)]
 
+ghost use Rattle.replay_laws.specs.Examples.{ExamplesLaw};
 ghost use Rattle.replay_laws.specs.Keeps.{KeepsLaw};
 ghost use Rattle.replay_laws.specs.Places.{PlacesLaw};
 ghost use Rattle.replay_laws.specs.Replay.{ReplayLaw, UniqueLaw};
@@ -31,4 +32,10 @@ pub fn keeps_law<C, V>()
 /// The same with a place for each cell, so that several transactions may be open.
 pub fn places_law<C, V>()
     ensures { PlacesLaw C V }
+{}
+
+/// A clone, a write to its source and a move of the copy: each of their moments is a good start, also those within the
+/// move, but a copy without a guard, or a guard that doesn't count its own operation, isn't.
+pub fn examples_law()
+    ensures { ExamplesLaw }
 {}

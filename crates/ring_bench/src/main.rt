@@ -8,11 +8,15 @@ mod work;
 
 use dev_edge::RealDevice;
 use std::env;
+use std::os::unix::fs::FileExt;
 use std::process::ExitCode;
 use std::rt::{Env, Files};
 use work::{Fault, do_command, read_command};
 
-fn run<R: Env + Files + AllocGlobal + Clone + Drop>(rt: &R) -> Result<(), Fault> {
+fn run<R: Env + Files + AllocGlobal + Clone + Drop>(rt: &R) -> Result<(), Fault>
+where
+    R::File: FileExt,
+{
     let Ok(args) = env::args(rt) else {
         return Err(Fault::Usage);
     };

@@ -7,6 +7,7 @@ use dev_api::Device;
 use dev_edge::{EdgeFault, RealDevice, told_on_a_file};
 use ring_journal::{Ring, RingFault, is_size};
 use std::alloc::{AllocError, Global};
+use std::os::unix::fs::FileExt;
 use std::rt::Files;
 
 const FSID: [u8; 16] = *b"the bench's ring";
@@ -78,6 +79,8 @@ pub fn read_command(word: &[u8]) -> Option<Command>
 }
 
 fn make<R: Files>(device: &mut RealDevice<R>) -> Result<(), Fault>
+where
+    R::File: FileExt,
     ensures faults { device.old.faults ≤ device.new.faults }
     ensures cause { IsErrOf result (Fault.Ring RingFault.Dev) → Counted device.old.faults device.new.faults }
 {
@@ -89,6 +92,8 @@ fn make<R: Files>(device: &mut RealDevice<R>) -> Result<(), Fault>
 }
 
 fn append<R: Files>(alloc: Global, device: &mut RealDevice<R>) -> Result<(), Fault>
+where
+    R::File: FileExt,
     ensures faults { device.old.faults ≤ device.new.faults }
     ensures cause { IsErrOf result (Fault.Ring RingFault.Dev) → Counted device.old.faults device.new.faults }
 {
@@ -113,6 +118,8 @@ fn append<R: Files>(alloc: Global, device: &mut RealDevice<R>) -> Result<(), Fau
 }
 
 fn read<R: Files>(alloc: Global, device: &mut RealDevice<R>) -> Result<(), Fault>
+where
+    R::File: FileExt,
     ensures faults { device.old.faults ≤ device.new.faults }
     ensures cause { IsErrOf result (Fault.Ring RingFault.Dev) → Counted device.old.faults device.new.faults }
 {
@@ -134,6 +141,8 @@ pub fn do_command<R: Files>(
     command: Command,
     device: &mut RealDevice<R>,
 ) -> Result<(), Fault>
+where
+    R::File: FileExt,
     ensures faults { device.old.faults ≤ device.new.faults }
     ensures cause { IsErrOf result (Fault.Ring RingFault.Dev) → Counted device.old.faults device.new.faults }
 {

@@ -23,7 +23,7 @@ CleanTo from to bytes = (k : ℕ) → from + 4096 * k < to → take 8 (drop (fro
 abbrev pub zeros : List ℕ
 zeros = replicate 64 0
 
-length-zeros : length zeros ≡ 64
+pub length-zeros : length zeros ≡ 64
 length-zeros = length-replicate {A = ℕ} 64 0
 
 no_magic : (rest : List ℕ) → take 8 (zeros ++ rest) ≢ entry_magic

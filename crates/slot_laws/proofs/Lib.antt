@@ -1,3 +1,4 @@
+pub mod Eight
 pub mod Flat
 pub mod Live
 pub mod Positions

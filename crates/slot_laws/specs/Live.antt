@@ -16,4 +16,6 @@ live ts slots (suc n) = live ts slots n ++ take (done_of slots n (length (txn ts
 
 pub record LiveLaw (C V : Type 0) : Type 0 where
   -- they give each cell what the operations before its place gave it
-  pub is_place : (raise : ℕ → V → V) (origin : C → V) (ts : List (Txn C V)) → AllWithin ts → (started : ℕ) → started ≤ length ts → (slots : List (Option Open)) → AreOpen ts started slots → (x : C) → fold raise (live ts slots started) origin x ≡ fold raise (take (place ts started slots x) (flat (take started ts))) origin x
+  pub is_place : (raise : ℕ → V → V) (origin : C → V) (ts : List (Txn C V)) → AllWithin ts → (started : ℕ)
+      → started ≤ length ts → (slots : List (Option Open)) → AreOpen ts started slots → (x : C)
+      → fold raise (live ts slots started) origin x ≡ fold raise (take (place ts started slots x) (flat (take started ts))) origin x

@@ -16,8 +16,11 @@ is_there makes drops first (suc t) = makes t || (not (drops t) && is_there makes
 
 pub record PositionsLaw (C V : Type 0) : Type 0 where
   -- positions and places are in one order
-  pub order : (ts : List (Txn C V)) (i k j l : ℕ) → k < length (txn ts i).ops → l < length (txn ts j).ops → (count ts i + k < count ts j + l) ↔ Earlier i k j l
+  pub order : (ts : List (Txn C V)) (i k j l : ℕ) → k < length (txn ts i).ops → l < length (txn ts j).ops
+      → (count ts i + k < count ts j + l) ↔ Earlier i k j l
   -- a guard of a committed transaction leaves nothing out
-  pub committed : (ts : List (Txn C V)) (i k n : ℕ) → i < n → k < length (txn ts i).ops → left_out ts i k - count ts n ≡ 0
+  pub committed : (ts : List (Txn C V)) (i k n : ℕ) → i < n → k < length (txn ts i).ops
+      → left_out ts i k - count ts n ≡ 0
   -- a collection that was taken away is not there until it is made again
-  pub missing : (makes drops : ℕ → Bool) (first : Bool) (r t : ℕ) → r < t → drops r ≡ true → makes r ≡ false → ((m : ℕ) → r < m → m < t → makes m ≡ false) → is_there makes drops first t ≡ false
+  pub missing : (makes drops : ℕ → Bool) (first : Bool) (r t : ℕ) → r < t → drops r ≡ true → makes r ≡ false
+      → ((m : ℕ) → r < m → m < t → makes m ≡ false) → is_there makes drops first t ≡ false

@@ -7,6 +7,7 @@
 //! image and the journal stand for together.
 #![tactic(auto)]
 
+ghost use Rattle.slot_laws.specs.Eight.{EightOpen};
 ghost use Rattle.slot_laws.specs.Live.{LiveLaw};
 ghost use Rattle.slot_laws.specs.Positions.{PositionsLaw};
 ghost use Rattle.slot_laws.specs.Slots.{SlotsLaw};
@@ -27,7 +28,9 @@ pub fn positions_law<C, V>()
     ensures { PositionsLaw C V }
 {}
 
-/// Two open transactions that share a cell, or a copy without a guard, leave starts that aren't good.
+/// Two open transactions that share a cell, or a copy without a guard, leave starts that aren't good; and eight open
+/// transactions that share none are open as a store wants them.
 pub fn weaker_law()
-    ensures { WeakerLaw }
+    ensures weaker { WeakerLaw }
+    ensures eight { EightOpen }
 {}

@@ -1,10 +1,10 @@
 -- Each part of a payload is read as it was spelled.
 use Rattle.std.proofs.Common.{◌≡◌, ℕ, zero, suc, ◌+◌, ◌*◌, ◌^◌, ◌<◌, ◌≤◌, Bool, true, false, cond, ltb, eqb, List, [], ◌∷◌, ◌++◌, length, get_or, Option, Some, None, is_none, Result, Ok, Err, refl, sym, ap, subst, ◌∙◌, append_assoc, arith}
 use Rattle.std.specs.Int.{w16, w32, w64}
-use Rattle.std.specs.List.{flat_map, AllByRecursion}
+use Rattle.std.specs.List.{flat_map, All, AllByRecursion}
 use Rattle.std.specs.Prelude.{IfSome}
 use Rattle.std.proofs.lemmas.Bool.{ltb-false, le-ltb, eqb-true}
-use Rattle.std.proofs.lemmas.List.{append-nil, nil_from_length, length-append}
+use Rattle.std.proofs.lemmas.List.{append-nil, nil_from_length, length-append, get_or_default}
 use Rattle.std.proofs.lemmas.Nat.{be_bytes_2, be_bytes_4, be_bytes_8}
 use Rattle.byteorder.specs.Endian.{big_bytes, big_number}
 use Rattle.byteorder.specs.Numbers.{big_number-reads_back, length-bytes_high_first}
@@ -13,15 +13,16 @@ use Rattle.fs_names.specs.declared.coll.Coll.TheVariants.{Meta, Pg}
 use Rattle.fs_names.specs.declared.oid.Oid.{Oid}
 use Rattle.fs_names.specs.declared.oid.Snap.{Snap}
 use Rattle.fs_names.specs.declared.oid.Snap.TheVariants.{Head, Dir, Id}
-use Rattle.fs_names.specs.Names.{IsName, bad_at}
+use Rattle.fs_names.specs.Names.{IsName}
 use Rattle.fs_names.specs.Codes.{oid_pack, oid_unpack}
 use Rattle.fs_names.specs.Reading.{CollFits, OidFits, SnapFits}
 use Rattle.fs_model.specs.declared.op.Op.{Op}
-use Rattle.fs_model.specs.declared.op.Op.TheVariants.{MkColl, Touch, Write}
+use Rattle.fs_model.specs.declared.op.Op.TheVariants.{Touch, Write, Zero, Truncate, Remove, SetAttrs, RmAttr, RmAttrs, Clone, CloneRange, MoveRename, MkColl, RmColl, OmapClear, OmapSet, OmapRemove, OmapRange}
+use Rattle.fs_model.specs.declared.pair.Pair.{Pair}
 use Rattle.txn_codec.specs.declared.fault.CodecFault.{CodecFault}
 use Rattle.txn_codec.specs.declared.fault.CodecFault.TheVariants.{Short, BadTag, BadLength, Trailing}
-use Rattle.txn_codec.specs.Spelling.{sized, flag, coll, snap, pool, oid, op, payload, OpFits, OpsFit}
-use Rattle.txn_codec.specs.Reading.{Rest, Reader, ◌>>=◌, ◌&◌, mapped, given, field, number, tagged, flag_follows, coll_follows, snap_follows, pool_follows, name_or_fault, name_of, name_at, blob_at, coll_at, oid_at, op_follows, op_at, repeated, ops_at, decoded}
+use Rattle.txn_codec.specs.Spelling.{sized, flag, coll, snap, pool, oid, blob, pair, header, counted, op, payload, BlobFits, PairFits, HeaderFits, AllFit, OpFits, OpsFit}
+use Rattle.txn_codec.specs.Reading.{Rest, Reader, ◌>>=◌, ◌&◌, mapped, given, field, number, tagged, flag_follows, coll_follows, snap_follows, pool_follows, name_at, blob_at, coll_at, oid_at, op_follows, op_at, repeated, counted_at, pair_of, pair_at, pairs_at, blobs_at, header_follows, object_at, touch, write, zero_part, truncate, remove, set_attrs, rm_attr, rm_attrs, clone, clone_range, move_rename, omap_clear, omap_set, omap_remove, omap_range, ops_at, decoded}
 use Rattle.txn_codec.proofs.Codec.{IsBytes, rest_of, got, bind_ok, guard_ok, test_ok, ok_is, Takes, Codec, TakesField, field_takes, field_again, both, both_spell, both_fit, mapped_takes, mapped_again, TakesTag, Tags, HasTag, tagged_codec, given_takes, given_again, fields_take, fields_again, TakesAll, all_take, all_again}
 
 -- ---- numbers
@@ -109,34 +110,28 @@ blob_codec = record {
       ∙ ap (λ (k : ℕ). got l (rest_of k bytes)) (length_sized 4 (2 ^ 32) wide4 l at);
 }
 
-none_is : {A : Type 0} (o : Option A) → is_none o ≡ true → o ≡ None
-none_is None e = refl
-none_is (Some x) e = absurd (cc)
+small_bytes : (l : List ℕ) → IsBytes l → All (λ b. b < 256) l
+small_bytes l h = λ k d within. subst (λ (b : ℕ). b < 256) (get_or_default l k 0 d within) (h k)
 
 pub name_codec : Codec (sized 2) IsName name_at
 unfolding name_at
 name_codec = record {
   takes = λ r x fits e.
-      let p = bind_ok (number 2 r) (λ len. cond (ltb 1024 len.0) (Err (BadLength r.at)) (name_of len.0 len.1)) x e in
+      let p = bind_ok (number 2 r) (λ len. cond (ltb 1024 len.0) (Err (BadLength r.at)) (field len.0 len.1)) x e in
       let len : ℕ × Rest = p.0 in
-      let g = guard_ok (ltb 1024 len.0) (BadLength r.at) (name_of len.0 len.1) x p.1.1 in
-      let q = bind_ok (field len.0 len.1) (name_or_fault len.1.at) x g.1 in
-      let f : List ℕ × Rest = q.0 in
-      let w = test_ok (is_none (bad_at f.0)) (BadTag len.1.at) f x q.1.1 in
-      let t : Takes (sized 2) (FitsIn (2 ^ 16)) r f = sized_takes 2 (2 ^ 16) wide2 r len f fits p.1.0 q.1.0 in
+      let g = guard_ok (ltb 1024 len.0) (BadLength r.at) (field len.0 len.1) x p.1.1 in
+      let t : Takes (sized 2) (FitsIn (2 ^ 16)) r x = sized_takes 2 (2 ^ 16) wide2 r len x fits p.1.0 g.1 in
       let a : Takes (big_bytes 2) (Below (2 ^ 16)) r len = (number_codec 2 (2 ^ 16) wide2).takes r len fits p.1.0 in
-      let d : TakesField len.0 len.1 f = field_takes len.0 len.1 f a.rest q.1.0 in
+      let d : TakesField len.0 len.1 x = field_takes len.0 len.1 x a.rest g.1 in
       let few : len.0 ≤ 1024 = ltb-false _ _ g.0 in
-      subst (Takes (sized 2) IsName r) w.1
-      (record { parts = t.parts; fit = record { plain = none_is (bad_at f.0) w.0; short = subst (λ (k : ℕ). k ≤ 1024) (sym d.len) few }; rest = t.rest });
+      record { parts = t.parts; fit = record { short = subst (λ (k : ℕ). k ≤ 1024) (sym d.len) few; small = small_bytes x.0 d.bytes }; rest = t.rest };
   again = λ l at bytes fit.
       let few : ltb 1024 (length l) ≡ false = le-ltb _ _ fit.short in
       let m : ℕ = at + length (big_bytes 2 (length l)) in
       ap (λ (w : List ℕ). name_at (rest_of at w)) (append_assoc (big_bytes 2 (length l)) l bytes)
-      ∙ ap (λ (r : Result (ℕ × Rest) CodecFault). r >>= λ len. cond (ltb 1024 len.0) (Err (BadLength at)) (name_of len.0 len.1)) ((number_codec 2 (2 ^ 16) wide2).again (length l) at (l ++ bytes) (omega (arith, fit.short)))
-      ∙ ap (λ (b : Bool). cond b (Err (BadLength at)) (name_of (length l) (rest_of m (l ++ bytes)))) few
-      ∙ ap (λ (r : Result (List ℕ × Rest) CodecFault). r >>= name_or_fault m) (field_again (length l) m l bytes refl)
-      ∙ ap (λ (o : Option ℕ). cond (is_none o) (got l (rest_of (m + length l) bytes)) (Err (BadTag m))) fit.plain
+      ∙ ap (λ (r : Result (ℕ × Rest) CodecFault). r >>= λ len. cond (ltb 1024 len.0) (Err (BadLength at)) (field len.0 len.1)) ((number_codec 2 (2 ^ 16) wide2).again (length l) at (l ++ bytes) (omega (arith, fit.short)))
+      ∙ ap (λ (b : Bool). cond b (Err (BadLength at)) (field (length l) (rest_of m (l ++ bytes)))) few
+      ∙ field_again (length l) m l bytes refl
       ∙ ap (λ (k : ℕ). got l (rest_of k bytes)) (length_sized 2 (2 ^ 16) wide2 l at);
 }
 
@@ -244,62 +239,177 @@ oid_codec = record {
   again = λ o at bytes fit. mapped_again oid_unpack fields_codec (oid_pack o) at bytes (fields_fit o fit);
 }
 
+-- ---- lists, pairs and omap headers
+
+module _ {A : Type 0} {spell : A → List ℕ} {fits : A → Type 0} {read : Reader A} (codec : Codec spell fits read) where
+  pub counted_codec : Codec (counted spell) (AllFit fits) (counted_at read)
+  counted_codec = record {
+    takes = λ r x bytes e.
+        let p = bind_ok (number 4 r) (λ count. repeated count.0 read count.1) x e in
+        let count : ℕ × Rest = p.0 in
+        let a : Takes (big_bytes 4) (Below (2 ^ 32)) r count = (number_codec 4 (2 ^ 32) wide4).takes r count bytes p.1.0 in
+        let t : TakesAll spell fits count.0 count.1 x = all_take codec count.0 count.1 x a.rest p.1.1 in
+        record {
+          parts = a.parts ∙ ap (λ (l : List ℕ). big_bytes 4 count.0 ++ l) t.parts ∙ sym (append_assoc (big_bytes 4 count.0) (flat_map spell x.0) x.1.bytes)
+              ∙ ap (λ (n : ℕ). (big_bytes 4 n ++ flat_map spell x.0) ++ x.1.bytes) (sym t.count);
+          fit = (subst (λ (n : ℕ). n < 2 ^ 32) (sym t.count) a.fit, t.fit);
+          rest = t.rest;
+        };
+    again = λ xs at bytes fit.
+        let count : List ℕ = big_bytes 4 (length xs) in
+        let body : List ℕ = flat_map spell xs in
+        let m : ℕ = at + length count in
+        let place : m + length body ≡ at + length (counted spell xs) = omega (arith, length-append count body) in
+        ap (λ (l : List ℕ). counted_at read (rest_of at l)) (append_assoc count body bytes)
+        ∙ ap (λ (r : Result (ℕ × Rest) CodecFault). r >>= λ n. repeated n.0 read n.1) ((number_codec 4 (2 ^ 32) wide4).again (length xs) at (body ++ bytes) fit.0)
+        ∙ all_again codec xs m bytes fit.1
+        ∙ ap (λ (n : ℕ). got xs (rest_of n bytes)) place;
+  }
+
+abbrev Two : Type 0
+Two = List ℕ × List ℕ
+
+two_codec : Codec (both_spell blob blob) (both_fit BlobFits BlobFits) (blob_at & blob_at)
+two_codec = both blob_codec blob_codec
+
+pub pair_codec : Codec pair PairFits pair_at
+unfolding pair_at
+pair_codec = record {
+  takes = λ r x bytes e.
+      let t = mapped_takes pair_of two_codec r x bytes e in
+      let u : Two × Rest = t.0 in
+      let one : Takes (both_spell blob blob) (both_fit BlobFits BlobFits) r u = t.1.0 in
+      subst (Takes pair PairFits r) t.1.1 (record { parts = one.parts; fit = one.fit; rest = one.rest });
+  again = λ p at bytes fit. mapped_again pair_of two_codec (p.key, p.value) at bytes fit;
+}
+
+pub pairs_codec : Codec (counted pair) (AllFit PairFits) pairs_at
+unfolding pairs_at
+pairs_codec = counted_codec pair_codec
+
+pub blobs_codec : Codec (counted blob) (AllFit BlobFits) blobs_at
+unfolding blobs_at
+blobs_codec = counted_codec blob_codec
+
+header_takes : (tag : ℕ) (read : Reader (Option (List ℕ))) → header_follows tag ≡ Some read → (r : Rest) (x : Option (List ℕ) × Rest) → IsBytes r.bytes → read r ≡ Ok x → TakesTag header HeaderFits tag r x
+header_takes zero read is r x bytes e = given_takes header HeaderFits header_follows None 0 refl tt read is r x bytes e
+header_takes (suc zero) read is r x bytes e = fields_take blob_codec header HeaderFits header_follows Some 1 (λ h. refl) (λ h fit. fit) read is r x bytes e
+header_takes (suc (suc n)) read is r x bytes e = absurd (cc)
+
+header_again : (o : Option (List ℕ)) → HeaderFits o → HasTag header header_follows o
+header_again None fit = given_again header HeaderFits header_follows None 0 refl refl
+header_again (Some h) fit = fields_again blob_codec header HeaderFits header_follows Some 1 (λ h. refl) h fit refl
+
+pub header_codec : Codec header HeaderFits (tagged header_follows)
+header_codec = tagged_codec (record { takes = header_takes; again = header_again })
+
 -- ---- operations
 
-abbrev touch : Coll × Oid → Op
-touch p = Touch p.0 p.1
+pub object_codec : Codec (both_spell coll oid) (both_fit CollFits OidFits) object_at
+unfolding object_at
+object_codec = both coll_codec oid_codec
 
-abbrev touch_spell : Coll × Oid → List ℕ
-touch_spell = both_spell coll oid
+abbrev n8 : Codec (big_bytes 8) (Below (2 ^ 64)) (number 8)
+n8 = number_codec 8 (2 ^ 64) wide8
 
-touch_codec : Codec touch_spell (both_fit CollFits OidFits) (coll_at & oid_at)
-touch_codec = both coll_codec oid_codec
+abbrev Obj : Type 0
+Obj = Coll × Oid
 
-abbrev write : Coll × (Oid × (ℕ × List ℕ)) → Op
-write p = Write p.0 p.1.0 p.1.1.0 p.1.1.1
+abbrev obj : Obj → List ℕ
+obj = both_spell coll oid
 
-abbrev write_spell : Coll × (Oid × (ℕ × List ℕ)) → List ℕ
-write_spell = both_spell coll (both_spell oid (both_spell (big_bytes 8) (sized 4)))
+abbrev ObjFits : Obj → Type 0
+ObjFits = both_fit CollFits OidFits
 
-abbrev WriteFits : Coll × (Oid × (ℕ × List ℕ)) → Type 0
-WriteFits = both_fit CollFits (both_fit OidFits (both_fit (Below (2 ^ 64)) (FitsIn (2 ^ 32))))
+write_codec : Codec (both_spell obj (both_spell (big_bytes 8) (sized 4))) (both_fit ObjFits (both_fit (Below (2 ^ 64)) (FitsIn (2 ^ 32)))) (object_at & number 8 & blob_at)
+write_codec = both object_codec (both n8 blob_codec)
 
-write_codec : Codec write_spell WriteFits (coll_at & oid_at & number 8 & blob_at)
-write_codec = both coll_codec (both oid_codec (both (number_codec 8 (2 ^ 64) wide8) blob_codec))
+zero_codec : Codec (both_spell obj (both_spell (big_bytes 8) (big_bytes 8))) (both_fit ObjFits (both_fit (Below (2 ^ 64)) (Below (2 ^ 64)))) (object_at & number 8 & number 8)
+zero_codec = both object_codec (both n8 n8)
+
+truncate_codec : Codec (both_spell obj (big_bytes 8)) (both_fit ObjFits (Below (2 ^ 64))) (object_at & number 8)
+truncate_codec = both object_codec n8
+
+set_attrs_codec : Codec (both_spell obj (counted pair)) (both_fit ObjFits (AllFit PairFits)) (object_at & pairs_at)
+set_attrs_codec = both object_codec pairs_codec
+
+rm_attr_codec : Codec (both_spell obj (sized 4)) (both_fit ObjFits (FitsIn (2 ^ 32))) (object_at & blob_at)
+rm_attr_codec = both object_codec blob_codec
+
+clone_codec : Codec (both_spell obj obj) (both_fit ObjFits ObjFits) (object_at & object_at)
+clone_codec = both object_codec object_codec
+
+clone_range_codec : Codec (both_spell obj (both_spell obj (both_spell (big_bytes 8) (both_spell (big_bytes 8) (big_bytes 8)))))
+    (both_fit ObjFits (both_fit ObjFits (both_fit (Below (2 ^ 64)) (both_fit (Below (2 ^ 64)) (Below (2 ^ 64)))))) (object_at & object_at & number 8 & number 8 & number 8)
+clone_range_codec = both object_codec (both object_codec (both n8 (both n8 n8)))
+
+omap_set_codec : Codec (both_spell obj (both_spell header (counted pair))) (both_fit ObjFits (both_fit HeaderFits (AllFit PairFits))) (object_at & tagged header_follows & pairs_at)
+omap_set_codec = both object_codec (both header_codec pairs_codec)
+
+omap_remove_codec : Codec (both_spell obj (counted blob)) (both_fit ObjFits (AllFit BlobFits)) (object_at & blobs_at)
+omap_remove_codec = both object_codec blobs_codec
+
+omap_range_codec : Codec (both_spell obj (both_spell (sized 4) (sized 4))) (both_fit ObjFits (both_fit (FitsIn (2 ^ 32)) (FitsIn (2 ^ 32)))) (object_at & blob_at & blob_at)
+omap_range_codec = both object_codec (both blob_codec blob_codec)
 
 abbrev OpTakes : ℕ → Option (Reader Op) → Type 0
 OpTakes tag o = (read : Reader Op) → o ≡ Some read → (r : Rest) (x : Op × Rest) → IsBytes r.bytes → read r ≡ Ok x → TakesTag op OpFits tag r x
 
-touch_takes : OpTakes 1 (Some (mapped touch (coll_at & oid_at)))
-touch_takes read is r x bytes e = fields_take touch_codec op OpFits op_follows touch 1 (λ p. refl) (λ p fit. fit) read is r x bytes e
-
-write_takes : OpTakes 2 (Some (mapped write (coll_at & oid_at & number 8 & blob_at)))
-write_takes read is r x bytes e = fields_take write_codec op OpFits op_follows write 2 (λ p. refl) (λ p fit. fit) read is r x bytes e
-
-mkcoll_takes : OpTakes 12 (Some (mapped MkColl coll_at))
-mkcoll_takes read is r x bytes e = fields_take coll_codec op OpFits op_follows MkColl 12 (λ c. refl) (λ c fit. fit) read is r x bytes e
+-- an operation's tag and fields
+line : {A : Type 0} {s : A → List ℕ} {f : A → Type 0} {fields : Reader A} → Codec s f fields → (make : A → Op) (tag : ℕ)
+    → ((x : A) → op (make x) ≡ tag ∷ s x) → ((x : A) → f x → OpFits (make x)) → OpTakes tag (Some (mapped make fields))
+line codec make tag spelled fit read is r x bytes e = fields_take codec op OpFits op_follows make tag spelled fit read is r x bytes e
 
 none_takes : (tag : ℕ) → OpTakes tag None
 none_takes tag read is r x bytes e = absurd (cc)
 
 -- one case of a choice by the tag
-by_tag : (tag this : ℕ) (a b : Option (Reader Op)) → (tag ≡ this → OpTakes tag a) → OpTakes tag b → OpTakes tag (cond (eqb tag this) a b)
+by_tag : (tag this : ℕ) (a b : Option (Reader Op)) → OpTakes this a → OpTakes tag b → OpTakes tag (cond (eqb tag this) a b)
 by_tag tag this a b here other =
-    elim (eqb tag this) as (λ t. eqb tag this ≡ t → OpTakes tag (cond t a b)) [ true ↦ λ e. here (eqb-true tag this e) | false ↦ λ e. other ] refl
-
-at_tag : (this : ℕ) (o : Option (Reader Op)) → OpTakes this o → (tag : ℕ) → tag ≡ this → OpTakes tag o
-at_tag this o takes tag e = subst (λ (t : ℕ). OpTakes t o) (sym e) takes
+    elim (eqb tag this) as (λ t. eqb tag this ≡ t → OpTakes tag (cond t a b)) [
+      | true ↦ λ e. subst (λ (t : ℕ). OpTakes t a) (sym (eqb-true tag this e)) here
+      | false ↦ λ e. other
+    ] refl
 
 op_takes : (tag : ℕ) → OpTakes tag (op_follows tag)
 op_takes tag =
-    by_tag tag 1 _ _ (at_tag 1 _ touch_takes tag)
-    (by_tag tag 2 _ _ (at_tag 2 _ write_takes tag)
-    (by_tag tag 12 _ _ (at_tag 12 _ mkcoll_takes tag) (none_takes tag)))
+    by_tag tag 1 _ _ (line object_codec touch 1 (λ p. refl) (λ p fit. fit))
+    (by_tag tag 2 _ _ (line write_codec write 2 (λ p. refl) (λ p fit. fit))
+    (by_tag tag 3 _ _ (line zero_codec zero_part 3 (λ p. refl) (λ p fit. fit))
+    (by_tag tag 4 _ _ (line truncate_codec truncate 4 (λ p. refl) (λ p fit. fit))
+    (by_tag tag 5 _ _ (line object_codec remove 5 (λ p. refl) (λ p fit. fit))
+    (by_tag tag 6 _ _ (line set_attrs_codec set_attrs 6 (λ p. refl) (λ p fit. fit))
+    (by_tag tag 7 _ _ (line rm_attr_codec rm_attr 7 (λ p. refl) (λ p fit. fit))
+    (by_tag tag 8 _ _ (line object_codec rm_attrs 8 (λ p. refl) (λ p fit. fit))
+    (by_tag tag 9 _ _ (line clone_codec clone 9 (λ p. refl) (λ p fit. fit))
+    (by_tag tag 10 _ _ (line clone_range_codec clone_range 10 (λ p. refl) (λ p fit. fit))
+    (by_tag tag 11 _ _ (line clone_codec move_rename 11 (λ p. refl) (λ p fit. fit))
+    (by_tag tag 12 _ _ (line coll_codec MkColl 12 (λ p. refl) (λ p fit. fit))
+    (by_tag tag 13 _ _ (line coll_codec RmColl 13 (λ p. refl) (λ p fit. fit))
+    (by_tag tag 14 _ _ (line object_codec omap_clear 14 (λ p. refl) (λ p fit. fit))
+    (by_tag tag 15 _ _ (line omap_set_codec omap_set 15 (λ p. refl) (λ p fit. fit))
+    (by_tag tag 16 _ _ (line omap_remove_codec omap_remove 16 (λ p. refl) (λ p fit. fit))
+    (by_tag tag 17 _ _ (line omap_range_codec omap_range 17 (λ p. refl) (λ p fit. fit)) (none_takes tag)))))))))))))))))
 
 op_again : (o : Op) → OpFits o → HasTag op op_follows o
+op_again (Touch c o) fit = fields_again object_codec op OpFits op_follows touch 1 (λ p. refl) (c, o) fit refl
+op_again (Write c o at bytes) fit = fields_again write_codec op OpFits op_follows write 2 (λ p. refl) ((c, o), (at, bytes)) fit refl
+op_again (Zero c o at len) fit = fields_again zero_codec op OpFits op_follows zero_part 3 (λ p. refl) ((c, o), (at, len)) fit refl
+op_again (Truncate c o len) fit = fields_again truncate_codec op OpFits op_follows truncate 4 (λ p. refl) ((c, o), len) fit refl
+op_again (Remove c o) fit = fields_again object_codec op OpFits op_follows remove 5 (λ p. refl) (c, o) fit refl
+op_again (SetAttrs c o pairs) fit = fields_again set_attrs_codec op OpFits op_follows set_attrs 6 (λ p. refl) ((c, o), pairs) fit refl
+op_again (RmAttr c o name) fit = fields_again rm_attr_codec op OpFits op_follows rm_attr 7 (λ p. refl) ((c, o), name) fit refl
+op_again (RmAttrs c o) fit = fields_again object_codec op OpFits op_follows rm_attrs 8 (λ p. refl) (c, o) fit refl
+op_again (Clone c o c2 o2) fit = fields_again clone_codec op OpFits op_follows clone 9 (λ p. refl) ((c, o), (c2, o2)) fit refl
+op_again (CloneRange c o c2 o2 from len to) fit =
+    fields_again clone_range_codec op OpFits op_follows clone_range 10 (λ p. refl) ((c, o), ((c2, o2), (from, (len, to)))) fit refl
+op_again (MoveRename c o c2 o2) fit = fields_again clone_codec op OpFits op_follows move_rename 11 (λ p. refl) ((c, o), (c2, o2)) fit refl
 op_again (MkColl c) fit = fields_again coll_codec op OpFits op_follows MkColl 12 (λ c. refl) c fit refl
-op_again (Touch c o) fit = fields_again touch_codec op OpFits op_follows touch 1 (λ p. refl) (c, o) fit refl
-op_again (Write c o at bytes) fit = fields_again write_codec op OpFits op_follows write 2 (λ p. refl) (c, (o, (at, bytes))) fit refl
+op_again (RmColl c) fit = fields_again coll_codec op OpFits op_follows RmColl 13 (λ c. refl) c fit refl
+op_again (OmapClear c o) fit = fields_again object_codec op OpFits op_follows omap_clear 14 (λ p. refl) (c, o) fit refl
+op_again (OmapSet c o h pairs) fit = fields_again omap_set_codec op OpFits op_follows omap_set 15 (λ p. refl) ((c, o), (h, pairs)) fit refl
+op_again (OmapRemove c o keys) fit = fields_again omap_remove_codec op OpFits op_follows omap_remove 16 (λ p. refl) ((c, o), keys) fit refl
+op_again (OmapRange c o from to) fit = fields_again omap_range_codec op OpFits op_follows omap_range 17 (λ p. refl) ((c, o), (from, to)) fit refl
 
 pub op_codec : Codec op OpFits op_at
 unfolding op_at

@@ -1,5 +1,5 @@
 -- Reading from left to right, with the first fault that is met.
-use Rattle.std.specs.Prelude.{◌≡◌, ℕ, zero, suc, ◌+◌, Bool, true, false, if◌then◌else◌, ◌==◌, nat_lt, List, [], ◌∷◌, length, take, drop, Option, Some, None, is_none, Result, Ok, Err}
+use Rattle.std.specs.Prelude.{◌≡◌, ℕ, zero, suc, ◌+◌, Bool, true, false, if◌then◌else◌, ◌==◌, nat_lt, List, [], ◌∷◌, length, take, drop, Option, Some, None, Result, Ok, Err}
 use Rattle.std.specs.Option.{option_map_or}
 use Rattle.byteorder.specs.Endian.{big_number}
 use Rattle.fs_names.specs.declared.coll.Coll.{Coll}
@@ -7,10 +7,10 @@ use Rattle.fs_names.specs.declared.coll.Coll.TheVariants.{Meta, Pg}
 use Rattle.fs_names.specs.declared.oid.Oid.{Oid}
 use Rattle.fs_names.specs.declared.oid.Snap.{Snap}
 use Rattle.fs_names.specs.declared.oid.Snap.TheVariants.{Head, Dir, Id}
-use Rattle.fs_names.specs.Names.{bad_at}
 use Rattle.fs_names.specs.Codes.{oid_unpack}
 use Rattle.fs_model.specs.declared.op.Op.{Op}
-use Rattle.fs_model.specs.declared.op.Op.TheVariants.{MkColl, Touch, Write}
+use Rattle.fs_model.specs.declared.op.Op.TheVariants.{Touch, Write, Zero, Truncate, Remove, SetAttrs, RmAttr, RmAttrs, Clone, CloneRange, MoveRename, MkColl, RmColl, OmapClear, OmapSet, OmapRemove, OmapRange}
+use Rattle.fs_model.specs.declared.pair.Pair.{Pair}
 use Rattle.txn_codec.specs.declared.fault.CodecFault.{CodecFault}
 use Rattle.txn_codec.specs.declared.fault.CodecFault.TheVariants.{Short, BadTag, BadLength, Trailing, Memory}
 
@@ -87,19 +87,11 @@ pool_follows zero = Some (given None)
 pool_follows (suc zero) = Some (mapped Some (number 8))
 pool_follows (suc (suc n)) = None
 
--- Bytes that stand at a place, where they are a name. Names with bytes that a text would have to escape aren't supported yet.
-abbrev pub name_or_fault : ℕ → List ℕ × Rest → Result (List ℕ × Rest) CodecFault
-name_or_fault at bytes = if is_none (bad_at bytes.0) then Ok bytes else Err (BadTag at)
-
-abbrev pub name_of : ℕ → Reader (List ℕ)
-name_of len r = do
-  bytes ← field len r
-  name_or_fault r.at bytes
-
+-- a name is any bytes, but few
 unfoldable pub name_at : Reader (List ℕ)
 name_at r = do
   len ← number 2 r
-  if nat_lt 1024 len.0 then Err (BadLength r.at) else name_of len.0 len.1
+  if nat_lt 1024 len.0 then Err (BadLength r.at) else field len.0 len.1
 
 unfoldable pub blob_at : Reader (List ℕ)
 blob_at r = do
@@ -112,19 +104,105 @@ coll_at = tagged coll_follows
 unfoldable pub oid_at : Reader Oid
 oid_at = mapped oid_unpack (name_at & name_at & name_at & tagged snap_follows & number 4 & tagged pool_follows)
 
-abbrev pub op_follows : ℕ → Option (Reader Op)
-op_follows tag =
-    if tag == 1 then Some (mapped (λ p. Touch p.0 p.1) (coll_at & oid_at)) else (
-    if tag == 2 then Some (mapped (λ p. Write p.0 p.1.0 p.1.1.0 p.1.1.1) (coll_at & oid_at & number 8 & blob_at)) else (
-    if tag == 12 then Some (mapped MkColl coll_at) else None))
-
-unfoldable pub op_at : Reader Op
-op_at = tagged op_follows
-
 -- that many values
 abbrev pub repeated : {A : Type 0} → ℕ → Reader A → Reader (List A)
 repeated zero read = given []
 repeated (suc n) read = mapped (λ p. p.0 ∷ p.1) (read & repeated n read)
+
+abbrev pub pair_of : List ℕ × List ℕ → Pair
+pair_of p = record { key = p.0; value = p.1 }
+
+unfoldable pub pair_at : Reader Pair
+pair_at = mapped pair_of (blob_at & blob_at)
+
+-- a number of values, and the values
+abbrev pub counted_at : {A : Type 0} → Reader A → Reader (List A)
+counted_at read r = do
+  count ← number 4 r
+  repeated count.0 read count.1
+
+unfoldable pub pairs_at : Reader (List Pair)
+pairs_at = counted_at pair_at
+
+unfoldable pub blobs_at : Reader (List (List ℕ))
+blobs_at = counted_at blob_at
+
+abbrev pub header_follows : ℕ → Option (Reader (Option (List ℕ)))
+header_follows zero = Some (given None)
+header_follows (suc zero) = Some (mapped Some blob_at)
+header_follows (suc (suc n)) = None
+
+unfoldable pub object_at : Reader (Coll × Oid)
+object_at = coll_at & oid_at
+
+-- the operation of its fields
+abbrev pub touch : Coll × Oid → Op
+touch p = Touch p.0 p.1
+
+abbrev pub write : (Coll × Oid) × (ℕ × List ℕ) → Op
+write p = Write p.0.0 p.0.1 p.1.0 p.1.1
+
+abbrev pub zero_part : (Coll × Oid) × (ℕ × ℕ) → Op
+zero_part p = Zero p.0.0 p.0.1 p.1.0 p.1.1
+
+abbrev pub truncate : (Coll × Oid) × ℕ → Op
+truncate p = Truncate p.0.0 p.0.1 p.1
+
+abbrev pub remove : Coll × Oid → Op
+remove p = Remove p.0 p.1
+
+abbrev pub set_attrs : (Coll × Oid) × List Pair → Op
+set_attrs p = SetAttrs p.0.0 p.0.1 p.1
+
+abbrev pub rm_attr : (Coll × Oid) × List ℕ → Op
+rm_attr p = RmAttr p.0.0 p.0.1 p.1
+
+abbrev pub rm_attrs : Coll × Oid → Op
+rm_attrs p = RmAttrs p.0 p.1
+
+abbrev pub clone : (Coll × Oid) × (Coll × Oid) → Op
+clone p = Clone p.0.0 p.0.1 p.1.0 p.1.1
+
+abbrev pub clone_range : (Coll × Oid) × ((Coll × Oid) × (ℕ × (ℕ × ℕ))) → Op
+clone_range p = CloneRange p.0.0 p.0.1 p.1.0.0 p.1.0.1 p.1.1.0 p.1.1.1.0 p.1.1.1.1
+
+abbrev pub move_rename : (Coll × Oid) × (Coll × Oid) → Op
+move_rename p = MoveRename p.0.0 p.0.1 p.1.0 p.1.1
+
+abbrev pub omap_clear : Coll × Oid → Op
+omap_clear p = OmapClear p.0 p.1
+
+abbrev pub omap_set : (Coll × Oid) × (Option (List ℕ) × List Pair) → Op
+omap_set p = OmapSet p.0.0 p.0.1 p.1.0 p.1.1
+
+abbrev pub omap_remove : (Coll × Oid) × List (List ℕ) → Op
+omap_remove p = OmapRemove p.0.0 p.0.1 p.1
+
+abbrev pub omap_range : (Coll × Oid) × (List ℕ × List ℕ) → Op
+omap_range p = OmapRange p.0.0 p.0.1 p.1.0 p.1.1
+
+abbrev pub op_follows : ℕ → Option (Reader Op)
+op_follows tag =
+    if tag == 1 then Some (mapped touch object_at) else (
+    if tag == 2 then Some (mapped write (object_at & number 8 & blob_at)) else (
+    if tag == 3 then Some (mapped zero_part (object_at & number 8 & number 8)) else (
+    if tag == 4 then Some (mapped truncate (object_at & number 8)) else (
+    if tag == 5 then Some (mapped remove object_at) else (
+    if tag == 6 then Some (mapped set_attrs (object_at & pairs_at)) else (
+    if tag == 7 then Some (mapped rm_attr (object_at & blob_at)) else (
+    if tag == 8 then Some (mapped rm_attrs object_at) else (
+    if tag == 9 then Some (mapped clone (object_at & object_at)) else (
+    if tag == 10 then Some (mapped clone_range (object_at & object_at & number 8 & number 8 & number 8)) else (
+    if tag == 11 then Some (mapped move_rename (object_at & object_at)) else (
+    if tag == 12 then Some (mapped MkColl coll_at) else (
+    if tag == 13 then Some (mapped RmColl coll_at) else (
+    if tag == 14 then Some (mapped omap_clear object_at) else (
+    if tag == 15 then Some (mapped omap_set (object_at & tagged header_follows & pairs_at)) else (
+    if tag == 16 then Some (mapped omap_remove (object_at & blobs_at)) else (
+    if tag == 17 then Some (mapped omap_range (object_at & blob_at & blob_at)) else None))))))))))))))))
+
+unfoldable pub op_at : Reader Op
+op_at = tagged op_follows
 
 unfoldable pub ops_at : Reader (List Op)
 ops_at r = do

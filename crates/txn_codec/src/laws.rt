@@ -2,7 +2,7 @@
 ghost use Rattle.std.specs.Prelude.{◌≡◌, ◌<◌, ◌≤◌, ℕ, List, length, slice_index, Ok, None};
 ghost use Rattle.std.specs.List.{AllByRecursion};
 ghost use Rattle.fs_model.specs.declared.op.Op.{Op};
-ghost use Rattle.fs_model.specs.declared.limits.TheConstants.{TXN_OPS};
+ghost use Rattle.fs_model.specs.Limits.{ops_limit};
 ghost use Rattle.fs_model.specs.Colls.{CollSet};
 ghost use Rattle.fs_model.specs.Check.{txn_refusal};
 ghost use Rattle.txn_codec.specs.Spelling.{payload, OpsFit, IsShort};
@@ -18,6 +18,6 @@ pub fn payload_law()
 
 /// A transaction that its check accepts has a spelling.
 pub fn encodable_law()
-    ensures few { (S : CollSet) (ops : List Op) → txn_refusal S ops ≡ None → length ops ≤ TXN_OPS }
+    ensures few { (S : CollSet) (ops : List Op) → txn_refusal S ops ≡ None → length ops ≤ ops_limit }
     ensures short { (S : CollSet) (ops : List Op) → txn_refusal S ops ≡ None → AllByRecursion IsShort ops }
 {}

@@ -1,11 +1,11 @@
 //! Fields, read one after the other.
-ghost use Rattle.std.specs.Prelude.{◌≡◌, ◌≢◌, ◌≤◌, ◌==◌, length};
-ghost use Rattle.txn_codec.specs.Reading.{Reads, Rest, field, number, byte, tagged, flag_follows, name_or_fault, name_at, blob_at};
+ghost use Rattle.std.specs.Prelude.{◌≡◌, ◌≤◌, ◌==◌, length, Ok};
+ghost use Rattle.txn_codec.specs.Reading.{Reads, Rest, field, number, byte, tagged, flag_follows, name_at, blob_at};
 
 use crate::CodecFault;
 use byteorder::{BigEndian, ByteOrder};
 use fs_model::Blob;
-use fs_names::{Name, NameFault};
+use fs_names::Name;
 use std::alloc::Global;
 use std::marker::Model;
 
@@ -109,9 +109,8 @@ impl<'a> Reader<'a> {
         if len > 1024 {
             return Err(CodecFault::BadLength { at });
         }
-        let at = self.at;
         let bytes = self.field(len as usize)?;
-        name_from(alloc, bytes, at)
+        name_from(alloc, bytes)
     }
 
     #[tactic(auto, unfolding(crate::specs::Reading::blob_at))]
@@ -124,26 +123,14 @@ impl<'a> Reader<'a> {
     }
 }
 
-// The name of these bytes, which stand at a place.
-fn name_from(alloc: Global, bytes: &[u8], at: u64) -> Result<Name, CodecFault>
+// The name of these bytes.
+fn name_from(alloc: Global, bytes: &[u8]) -> Result<Name, CodecFault>
     requires { length bytes.now ≤ 1024 }
-    ensures { (rest : Rest) → Reads (λ x. x) result rest (name_or_fault at (bytes.now, rest)) }
+    ensures { (rest : Rest) → Reads (λ x. x) result rest (Ok (bytes.now, rest)) }
 {
     match Name::new(alloc, bytes) {
         Ok(name) => Ok(name),
-        Err(fault) => Err(codec_fault(fault, at)),
-    }
-}
-
-// The fault of a name whose bytes stand at a place.
-fn codec_fault(fault: NameFault, at: u64) -> CodecFault
-    ensures memory { fault ≡ NameFault.Memory → result ≡ CodecFault.Memory }
-    ensures tag { fault ≢ NameFault.Memory → result ≡ CodecFault.BadTag at }
-{
-    match fault {
-        NameFault::Memory => CodecFault::Memory,
-        NameFault::BadEscape { .. } | NameFault::BadField { .. } | NameFault::TooLong { .. } => {
-            CodecFault::BadTag { at }
-        }
+        // So few bytes are refused for want of memory alone.
+        Err(_) => Err(CodecFault::Memory),
     }
 }

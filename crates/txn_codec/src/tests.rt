@@ -1,7 +1,5 @@
-ghost use Rattle.txn_codec.specs.Spelling.{IsShort};
-
 use super::*;
-use fs_model::{Blob, Op, OpList, Txn};
+use fs_model::{Blob, BlobList, Op, OpList, Pair, PairList, Txn};
 use fs_names::{Coll, Name, NameFault, Oid, Snap};
 use std::alloc::{AllocError, Global};
 use std::test::Fail;
@@ -27,13 +25,16 @@ fn fault(alloc: Global, bytes: &[u8]) -> Option<CodecFault> {
     decode_txn(alloc, bytes).err()
 }
 
-fn spelled(alloc: Global, op: Op) -> Result<Blob, AllocError>
-    requires { IsShort op }
-{
+// The payload of one operation.
+#[tactic(auto, using(crate::proofs::Shorts::short_op))]
+fn spelled(alloc: Global, op: Op) -> Result<Blob, Fail> {
+    if op.is_unfit() {
+        return Err("unfit")?;
+    }
     let txn = Txn {
         ops: OpList::from_vec(vec![in alloc; op]?),
     };
-    encode_txn(alloc, &txn)
+    Ok(encode_txn(alloc, &txn)?)
 }
 
 fn group(temp: bool) -> Coll {
@@ -140,12 +141,12 @@ fn a_wrong_byte_is_found_where_its_field_begins(rt: HostRuntime) {
     for (place, byte, want) in [
         (0, 1, CodecFault::BadLength { at: 0 }),
         (4, 0, CodecFault::BadTag { at: 4 }),
-        (4, 3, CodecFault::BadTag { at: 4 }),
+        (4, 18, CodecFault::BadTag { at: 4 }),
+        (4, 3, CodecFault::Short { at: 40 }),
         (5, 2, CodecFault::BadTag { at: 5 }),
         (18, 2, CodecFault::BadTag { at: 18 }),
         (19, 5, CodecFault::BadLength { at: 19 }),
         (20, 200, CodecFault::Short { at: 21 }),
-        (21, b'_', CodecFault::BadTag { at: 21 }),
         (26, 3, CodecFault::BadTag { at: 26 }),
         (26, 2, CodecFault::Short { at: 40 }),
         (31, 2, CodecFault::BadTag { at: 31 }),
@@ -156,4 +157,260 @@ fn a_wrong_byte_is_found_where_its_field_begins(rt: HostRuntime) {
         }
         assert_eq!(rt; fault(rt.alloc(), &bytes), Some(want), "{byte} at {place}");
     }
+}
+
+// The object `a` of the collection without a pool, hash 1, and the object `b`.
+const A: [u8; 14] = [0, 0, 1, 97, 0, 0, 0, 0, 0, 0, 0, 0, 1, 0];
+
+const B: [u8; 14] = [0, 0, 1, 98, 0, 0, 0, 0, 0, 0, 0, 0, 1, 0];
+
+fn plain(alloc: Global, name: &[u8]) -> Result<Oid, NameFault> {
+    Ok(Oid {
+        name: Name::new(alloc, name)?,
+        key: Name::new(alloc, b"")?,
+        nspace: Name::new(alloc, b"")?,
+        snap: Snap::Head,
+        hash: 1,
+        pool: None,
+    })
+}
+
+// Whether an operation on `a` has this payload, which is read.
+fn is_spelled(
+    alloc: Global,
+    op: Result<Op, NameFault>,
+    tag: u8,
+    fields: &[u8],
+) -> Result<bool, Fail> {
+    let mut want = Vec::new(alloc);
+    want.extend_from_slice(&[0, 0, 0, 1, tag])?;
+    want.extend_from_slice(&A)?;
+    want.extend_from_slice(fields)?;
+    let found = spelled(alloc, op?)?;
+    Ok(found.slice() == want.as_slice() && fault(alloc, &want).is_none())
+}
+
+fn one_pair(alloc: Global) -> Result<PairList, AllocError> {
+    let pair = Pair {
+        key: Blob::new(alloc, b"k")?,
+        value: Blob::new(alloc, b"vw")?,
+    };
+    Ok(PairList::from_vec(vec![in alloc; pair]?))
+}
+
+fn set_attrs(alloc: Global) -> Result<Op, NameFault> {
+    Ok(Op::SetAttrs {
+        c: Coll::Meta,
+        o: plain(alloc, b"a")?,
+        pairs: one_pair(alloc)?,
+    })
+}
+
+fn omap_set(alloc: Global, header: Option<Blob>) -> Result<Op, NameFault> {
+    Ok(Op::OmapSet {
+        c: Coll::Meta,
+        o: plain(alloc, b"a")?,
+        header,
+        pairs: one_pair(alloc)?,
+    })
+}
+
+fn one_key(alloc: Global) -> Result<BlobList, AllocError> {
+    let key = Blob::new(alloc, b"k")?;
+    Ok(BlobList::from_vec(vec![in alloc; key]?))
+}
+
+fn omap_remove(alloc: Global) -> Result<Op, NameFault> {
+    Ok(Op::OmapRemove {
+        c: Coll::Meta,
+        o: plain(alloc, b"a")?,
+        keys: one_key(alloc)?,
+    })
+}
+
+fn omap_range(alloc: Global) -> Result<Op, NameFault> {
+    Ok(Op::OmapRange {
+        c: Coll::Meta,
+        o: plain(alloc, b"a")?,
+        from: Blob::new(alloc, b"k")?,
+        to: Blob::new(alloc, b"")?,
+    })
+}
+
+fn clone_range(alloc: Global) -> Result<Op, NameFault> {
+    Ok(Op::CloneRange {
+        c: Coll::Meta,
+        o: plain(alloc, b"a")?,
+        c2: Coll::Meta,
+        o2: plain(alloc, b"b")?,
+        from: 1,
+        len: 2,
+        to: 3,
+    })
+}
+
+// `b` and three numbers.
+const CLONED_RANGE: [u8; 38] = [
+    0, 0, 1, 98, 0, 0, 0, 0, 0, 0, 0, 0, 1, 0, 0, 0, 0, 0, 0, 0, 0, 1, 0, 0, 0, 0, 0, 0, 0, 2, 0,
+    0, 0, 0, 0, 0, 0, 3,
+];
+
+#[test]
+fn pairs_and_keys_stand_behind_their_number(rt: HostRuntime) -> Result<(), Fail> {
+    let alloc = rt.alloc();
+    let pairs = [0, 0, 0, 1, 0, 0, 0, 1, 107, 0, 0, 0, 2, 118, 119];
+    let headed = [
+        1, 0, 0, 0, 1, 104, 0, 0, 0, 1, 0, 0, 0, 1, 107, 0, 0, 0, 2, 118, 119,
+    ];
+    let unheaded = [0, 0, 0, 0, 1, 0, 0, 0, 1, 107, 0, 0, 0, 2, 118, 119];
+    let header = Blob::new(alloc, b"h")?;
+    assert_eq!(rt; is_spelled(alloc, set_attrs(alloc), 6, &pairs)?, true);
+    assert_eq!(rt;
+        is_spelled(alloc, omap_set(alloc, Some(header)), 15, &headed)?,
+        true
+    );
+    assert_eq!(rt;
+        is_spelled(alloc, omap_set(alloc, None), 15, &unheaded)?,
+        true
+    );
+    assert_eq!(rt;
+        is_spelled(
+            alloc,
+            omap_remove(alloc),
+            16,
+            &[0, 0, 0, 1, 0, 0, 0, 1, 107]
+        )?,
+        true
+    );
+    assert_eq!(rt;
+        is_spelled(alloc, omap_range(alloc), 17, &[0, 0, 0, 1, 107, 0, 0, 0, 0])?,
+        true
+    );
+    assert_eq!(rt;
+        is_spelled(alloc, clone_range(alloc), 10, &CLONED_RANGE)?,
+        true
+    );
+    Ok(())
+}
+
+#[test]
+fn each_tag_has_its_operation(rt: HostRuntime) -> Result<(), Fail> {
+    let alloc = rt.alloc();
+    let c = Coll::Meta;
+    let seven = [0, 0, 0, 0, 0, 0, 0, 7];
+    let o = plain(alloc, b"a")?;
+    assert_eq!(rt; is_spelled(alloc, Ok(Op::Touch { c, o }), 1, &[])?, true);
+    let o = plain(alloc, b"a")?;
+    assert_eq!(rt;
+        is_spelled(alloc, Ok(Op::Truncate { c, o, len: 7 }), 4, &seven)?,
+        true
+    );
+    let o = plain(alloc, b"a")?;
+    assert_eq!(rt; is_spelled(alloc, Ok(Op::Remove { c, o }), 5, &[])?, true);
+    let o = plain(alloc, b"a")?;
+    let name = Blob::new(alloc, b"k")?;
+    assert_eq!(rt;
+        is_spelled(alloc, Ok(Op::RmAttr { c, o, name }), 7, &[0, 0, 0, 1, 107])?,
+        true
+    );
+    let o = plain(alloc, b"a")?;
+    assert_eq!(rt; is_spelled(alloc, Ok(Op::RmAttrs { c, o }), 8, &[])?, true);
+    let o = plain(alloc, b"a")?;
+    assert_eq!(rt;
+        is_spelled(alloc, Ok(Op::OmapClear { c, o }), 14, &[])?,
+        true
+    );
+    Ok(())
+}
+
+#[test]
+fn an_operation_on_two_objects_names_both(rt: HostRuntime) -> Result<(), Fail> {
+    let alloc = rt.alloc();
+    let c = Coll::Meta;
+    let o = plain(alloc, b"a")?;
+    let o2 = plain(alloc, b"b")?;
+    assert_eq!(rt;
+        is_spelled(alloc, Ok(Op::Clone { c, o, c2: c, o2 }), 9, &B)?,
+        true
+    );
+    let o = plain(alloc, b"a")?;
+    let o2 = plain(alloc, b"b")?;
+    assert_eq!(rt;
+        is_spelled(alloc, Ok(Op::MoveRename { c, o, c2: c, o2 }), 11, &B)?,
+        true
+    );
+    Ok(())
+}
+
+// Two operations: an omap set with a header and one pair, and a range of copied bytes.
+const MANY: [u8; 93] = [
+    0, 0, 0, 2, 15, 0, 0, 1, 97, 0, 0, 0, 0, 0, 0, 0, 0, 1, 0, 1, 0, 0, 0, 1, 104, 0, 0, 0, 1, 0,
+    0, 0, 1, 107, 0, 0, 0, 2, 118, 119, 10, 0, 0, 1, 97, 0, 0, 0, 0, 0, 0, 0, 0, 1, 0, 0, 0, 1, 98,
+    0, 0, 0, 0, 0, 0, 0, 0, 1, 0, 0, 0, 0, 0, 0, 0, 0, 1, 0, 0, 0, 0, 0, 0, 0, 2, 0, 0, 0, 0, 0, 0,
+    0, 3,
+];
+
+// The places where its fields begin.
+const FIELDS: [u64; 38] = [
+    0, 4, 5, 6, 8, 9, 11, 13, 14, 18, 19, 20, 24, 25, 29, 33, 34, 38, 40, 41, 42, 44, 45, 47, 49,
+    50, 54, 55, 56, 58, 59, 61, 63, 64, 68, 69, 77, 85,
+];
+
+// The place of the field that a byte belongs to.
+fn field_at(place: u64) -> u64 {
+    let mut found = 0;
+    for field in FIELDS {
+        if field <= place {
+            found = field;
+        }
+    }
+    found
+}
+
+// The place of a fault.
+fn place_of(fault: CodecFault) -> Option<u64> {
+    match fault {
+        CodecFault::Short { at }
+        | CodecFault::BadTag { at }
+        | CodecFault::BadLength { at }
+        | CodecFault::Trailing { at } => Some(at),
+        CodecFault::Memory => None,
+    }
+}
+
+#[test]
+fn a_payload_that_is_cut_is_short_where_its_last_field_begins(rt: HostRuntime) {
+    assert_eq!(rt; fault(rt.alloc(), &MANY), None);
+    for len in 0..MANY.len() {
+        let at = field_at(len as u64);
+        assert_eq!(rt;
+            fault(rt.alloc(), &MANY[..len]),
+            Some(CodecFault::Short { at }),
+            "{len} bytes"
+        );
+    }
+}
+
+#[test]
+fn a_changed_byte_is_no_fault_before_its_field(rt: HostRuntime) {
+    for place in 0..MANY.len() {
+        for byte in [0u8, 1, 2, 3, 18, 127, 128, 255] {
+            let mut bytes = MANY;
+            bytes[place] = byte;
+            if let Some(fault) = fault(rt.alloc(), &bytes) {
+                let at = place_of(fault).unwrap_or(0);
+                let ahead = at < field_at(place as u64);
+                assert_eq!(rt; ahead, false, "{byte} at {place}");
+            }
+        }
+    }
+}
+
+#[test]
+fn a_count_past_the_end_is_refused(rt: HostRuntime) {
+    let mut bytes = MANY;
+    for place in 25..29 {
+        bytes[place] = 255;
+    }
+    assert_eq!(rt; fault(rt.alloc(), &bytes).is_some(), true);
 }

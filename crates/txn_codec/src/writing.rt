@@ -3,11 +3,14 @@ ghost use Rattle.std.specs.Prelude.{◌≡◌, ◌≤◌, ◌<◌, ◌^◌, ◌�
 ghost use Rattle.std.specs.List.{AllByRecursion};
 ghost use Rattle.fs_names.specs.Reading.{CollFits, OidFits, SnapFits};
 ghost use Rattle.fs_names.specs.Names.{IsName};
-ghost use Rattle.fs_model.specs.declared.limits.TheConstants.{TXN_OPS};
-ghost use Rattle.txn_codec.specs.Spelling.{sized, flag, coll, snap, pool, oid, op, payload, OpFits, OpsFit, IsShort};
+ghost use Rattle.fs_model.specs.Limits.{ops_limit};
+ghost use Rattle.txn_codec.specs.Spelling.{sized, flag, coll, snap, pool, oid, object, count8, blob, pair, header, counted, op, payload, BlobFits, PairFits, AllFit, HeaderFits, ObjectFits, OpFits, OpsFit, IsShort};
 
-use crate::tags::{MK_COLL, TOUCH, WRITE};
-use fs_model::{Blob, Op, Txn};
+use crate::tags::{
+    CLONE, CLONE_RANGE, MK_COLL, MOVE_RENAME, OMAP_CLEAR, OMAP_RANGE, OMAP_REMOVE, OMAP_SET,
+    REMOVE, RM_ATTR, RM_ATTRS, RM_COLL, SET_ATTRS, TOUCH, TRUNCATE, WRITE, ZERO,
+};
+use fs_model::{Blob, Op, Pair, Txn};
 use fs_names::{Coll, Name, Oid, Snap};
 use std::alloc::{AllocError, Global};
 
@@ -85,23 +88,126 @@ fn put_oid(out: &mut Vec<u8>, o: &Oid) -> Result<(), AllocError>
     Ok(())
 }
 
-fn put_blob(out: &mut Vec<u8>, blob: &Blob) -> Result<(), AllocError>
-    requires { length blob.now < 2 ^ 32 }
-    ensures { OnOk result (out.new.items ≡ out.old.items ++ sized 4 blob.now) }
+fn put_blob(out: &mut Vec<u8>, bytes: &Blob) -> Result<(), AllocError>
+    requires { BlobFits bytes.now }
+    ensures { OnOk result (out.new.items ≡ out.old.items ++ blob bytes.now) }
 {
-    let bytes = blob.slice();
+    let bytes = bytes.slice();
     out.extend_from_slice(&(bytes.len() as u32).to_be_bytes())?;
     out.extend_from_slice(bytes)
 }
 
+fn put_u64(out: &mut Vec<u8>, n: u64) -> Result<(), AllocError>
+    ensures { OnOk result (out.new.items ≡ out.old.items ++ count8 n) }
+{
+    out.extend_from_slice(&n.to_be_bytes())
+}
+
+fn put_pair(out: &mut Vec<u8>, p: &Pair) -> Result<(), AllocError>
+    requires { PairFits p.now }
+    ensures { OnOk result (out.new.items ≡ out.old.items ++ pair p.now) }
+{
+    put_blob(out, &p.key)?;
+    put_blob(out, &p.value)?;
+    Ok(())
+}
+
+fn put_pairs(out: &mut Vec<u8>, pairs: &[Pair]) -> Result<(), AllocError>
+    requires { AllFit PairFits pairs.now }
+    ensures { OnOk result (out.new.items ≡ out.old.items ++ counted pair pairs.now) }
+{
+    out.extend_from_slice(&(pairs.len() as u32).to_be_bytes())?;
+    for p in pairs {
+        put_pair(out, p)?;
+    }
+    Ok(())
+}
+
+fn put_blobs(out: &mut Vec<u8>, blobs: &[Blob]) -> Result<(), AllocError>
+    requires { AllFit BlobFits blobs.now }
+    ensures { OnOk result (out.new.items ≡ out.old.items ++ counted blob blobs.now) }
+{
+    out.extend_from_slice(&(blobs.len() as u32).to_be_bytes())?;
+    for bytes in blobs {
+        put_blob(out, bytes)?;
+    }
+    Ok(())
+}
+
+fn put_header(out: &mut Vec<u8>, h: &Option<Blob>) -> Result<(), AllocError>
+    requires { HeaderFits h.now }
+    ensures { OnOk result (out.new.items ≡ out.old.items ++ header h.now) }
+{
+    match h {
+        None => out.push(0)?,
+        Some(bytes) => {
+            out.push(1)?;
+            put_blob(out, bytes)?;
+        }
+    }
+    Ok(())
+}
+
+fn put_object(out: &mut Vec<u8>, c: &Coll, o: &Oid) -> Result<(), AllocError>
+    ensures spelled { OnOk result (out.new.items ≡ out.old.items ++ object c.now o.now) }
+    ensures fits { OnOk result (ObjectFits c.now o.now) }
+{
+    put_coll(out, c)?;
+    put_oid(out, o)?;
+    Ok(())
+}
+
 // The tag of an operation on an object, and the object.
 fn put_head(out: &mut Vec<u8>, tag: u8, c: &Coll, o: &Oid) -> Result<(), AllocError>
-    ensures spelled { OnOk result (out.new.items ≡ out.old.items ++ tag ∷ (coll c.now ++ oid o.now)) }
-    ensures fits { OnOk result (CollFits c.now × OidFits o.now) }
+    ensures spelled { OnOk result (out.new.items ≡ out.old.items ++ tag ∷ object c.now o.now) }
+    ensures fits { OnOk result (ObjectFits c.now o.now) }
+{
+    out.push(tag)?;
+    put_object(out, c, o)?;
+    Ok(())
+}
+
+// The tag of an operation on two objects, and the objects.
+fn put_two(
+    out: &mut Vec<u8>,
+    tag: u8,
+    c: &Coll,
+    o: &Oid,
+    c2: &Coll,
+    o2: &Oid,
+) -> Result<(), AllocError>
+    ensures spelled { OnOk result (out.new.items ≡ out.old.items ++ tag ∷ (object c.now o.now ++ object c2.now o2.now)) }
+    ensures fits { OnOk result (ObjectFits c.now o.now × ObjectFits c2.now o2.now) }
+{
+    put_head(out, tag, c, o)?;
+    put_object(out, c2, o2)?;
+    Ok(())
+}
+
+fn put_coll_op(out: &mut Vec<u8>, tag: u8, c: &Coll) -> Result<(), AllocError>
+    ensures spelled { OnOk result (out.new.items ≡ out.old.items ++ tag ∷ coll c.now) }
+    ensures fits { OnOk result (CollFits c.now) }
 {
     out.push(tag)?;
     put_coll(out, c)?;
-    put_oid(out, o)?;
+    Ok(())
+}
+
+fn put_two_blobs(out: &mut Vec<u8>, a: &Blob, b: &Blob) -> Result<(), AllocError>
+    requires { BlobFits a.now × BlobFits b.now }
+    ensures { OnOk result (out.new.items ≡ out.old.items ++ (blob a.now ++ blob b.now)) }
+{
+    put_blob(out, a)?;
+    put_blob(out, b)?;
+    Ok(())
+}
+
+// Two numbers of 8 bytes.
+fn put_two_numbers(out: &mut Vec<u8>, a: u64, b: u64) -> Result<(), AllocError>
+    ensures { OnOk result (out.new.items ≡ out.old.items ++ (count8 a ++ count8 b)) }
+{
+    put_u64(out, a)?;
+    put_u64(out, b)?;
     Ok(())
 }
 
@@ -111,19 +217,97 @@ fn put_op(out: &mut Vec<u8>, operation: &Op) -> Result<(), AllocError>
     ensures fits { OnOk result (OpFits operation.now) }
 {
     match operation {
-        Op::MkColl { c } => {
-            out.push(MK_COLL)?;
-            put_coll(out, c)?;
-            Ok(())
-        }
         Op::Touch { c, o } => {
             put_head(out, TOUCH, c, o)?;
             Ok(())
         }
         Op::Write { c, o, at, bytes } => {
             put_head(out, WRITE, c, o)?;
-            out.extend_from_slice(&at.to_be_bytes())?;
+            put_u64(out, *at)?;
             put_blob(out, bytes)?;
+            Ok(())
+        }
+        Op::Zero { c, o, at, len } => {
+            put_head(out, ZERO, c, o)?;
+            put_two_numbers(out, *at, *len)?;
+            Ok(())
+        }
+        Op::Truncate { c, o, len } => {
+            put_head(out, TRUNCATE, c, o)?;
+            put_u64(out, *len)?;
+            Ok(())
+        }
+        Op::Remove { c, o } => {
+            put_head(out, REMOVE, c, o)?;
+            Ok(())
+        }
+        Op::SetAttrs { c, o, pairs } => {
+            put_head(out, SET_ATTRS, c, o)?;
+            put_pairs(out, pairs.slice())?;
+            Ok(())
+        }
+        Op::RmAttr { c, o, name } => {
+            put_head(out, RM_ATTR, c, o)?;
+            put_blob(out, name)?;
+            Ok(())
+        }
+        Op::RmAttrs { c, o } => {
+            put_head(out, RM_ATTRS, c, o)?;
+            Ok(())
+        }
+        Op::Clone { c, o, c2, o2 } => {
+            put_two(out, CLONE, c, o, c2, o2)?;
+            Ok(())
+        }
+        Op::CloneRange {
+            c,
+            o,
+            c2,
+            o2,
+            from,
+            len,
+            to,
+        } => {
+            put_two(out, CLONE_RANGE, c, o, c2, o2)?;
+            put_u64(out, *from)?;
+            put_two_numbers(out, *len, *to)?;
+            Ok(())
+        }
+        Op::MoveRename { c, o, c2, o2 } => {
+            put_two(out, MOVE_RENAME, c, o, c2, o2)?;
+            Ok(())
+        }
+        Op::MkColl { c } => {
+            put_coll_op(out, MK_COLL, c)?;
+            Ok(())
+        }
+        Op::RmColl { c } => {
+            put_coll_op(out, RM_COLL, c)?;
+            Ok(())
+        }
+        Op::OmapClear { c, o } => {
+            put_head(out, OMAP_CLEAR, c, o)?;
+            Ok(())
+        }
+        Op::OmapSet {
+            c,
+            o,
+            header,
+            pairs,
+        } => {
+            put_head(out, OMAP_SET, c, o)?;
+            put_header(out, header)?;
+            put_pairs(out, pairs.slice())?;
+            Ok(())
+        }
+        Op::OmapRemove { c, o, keys } => {
+            put_head(out, OMAP_REMOVE, c, o)?;
+            put_blobs(out, keys.slice())?;
+            Ok(())
+        }
+        Op::OmapRange { c, o, from, to } => {
+            put_head(out, OMAP_RANGE, c, o)?;
+            put_two_blobs(out, from, to)?;
             Ok(())
         }
     }
@@ -131,7 +315,7 @@ fn put_op(out: &mut Vec<u8>, operation: &Op) -> Result<(), AllocError>
 
 /// The one spelling of a transaction.
 pub fn encode_txn(alloc: Global, txn: &Txn) -> Result<Blob, AllocError>
-    requires few { length txn.now.ops ≤ TXN_OPS }
+    requires few { length txn.now.ops ≤ ops_limit }
     requires short { AllByRecursion IsShort txn.now.ops }
     ensures spelled { IfOk result (λ blob. blob ≡ payload txn.now.ops) }
     ensures fits { OnOk result (OpsFit txn.now.ops) }

@@ -1,7 +1,6 @@
-use Rattle.std.proofs.Common.{◌∙◌, ap, take, drop, arith}
+use Rattle.std.proofs.Common.{rules, ◌∙◌, ap, take, drop, arith}
 use Rattle.std.proofs.lemmas.List.{length-drop, take_rest}
-use Rattle.io_edge.specs.Told.{followed_by}
-use Rattle.io_edge.proofs.ToldLemmas.{followed_by-front}
+use Rattle.io_edge.proofs.Writing.{writes_front}
 use Rattle.io_edge.proofs.sink.write_all.Goals as goal
 
 pub loop-done-preserved : goal.loop-done-preserved
@@ -13,6 +12,7 @@ loop-done-preserved g c =
     let takes = rw (take_rest bytes done) at c.in_ok-done.ensures.takes in
     record {
       within = omega (arith, within, length-drop done bytes, c.loop-done-test.true);
-      written = takes ∙ ap (λ told. followed_by told (take n (drop done bytes))) c.loop-done.invariant.written ∙ followed_by-front (g.K.Sink.written c.args.sink.now) done n bytes;
+      written = λ told. writes_front _ _ _ done n bytes (c.loop-done.invariant.written (search rules)) (takes (search rules));
+      honest = search rules;
       later = omega (arith, c.loop-done.invariant.later, c.write.ensures.later);
     }

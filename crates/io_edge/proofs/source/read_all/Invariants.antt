@@ -6,8 +6,9 @@ abbrev pub invariant-loop-bytes : goal.invariant-loop-bytes
 invariant-loop-bytes g l = record {
   piece : 0 < vec_len l.piece;
   within : vec_len l.bytes ≤ l.limit;
-  read : HasRead (g.S.Source.left l.fn.source) (g.S.Source.left l.source) l.bytes.items;
-  later : g.S.Source.faults l.fn.source ≤ g.S.Source.faults l.source;
+  read : g.S.Source.tells l.source → HasRead (g.S.Source.inflow l.fn.source) (g.S.Source.inflow l.source) l.bytes.items;
+  honest : g.S.Source.tells l.source → g.S.Source.tells l.fn.source;
+  later : (g.S.Source.inflow l.fn.source).faults ≤ (g.S.Source.inflow l.source).faults;
 }
 
 abbrev pub decreases-loop-bytes : goal.decreases-loop-bytes

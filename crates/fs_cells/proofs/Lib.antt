@@ -1,0 +1,9 @@
+pub mod Determined
+pub mod Looks
+pub mod Parts
+pub mod Reading
+pub mod Replaying
+pub mod Rows
+pub mod Standing
+pub mod Starts
+pub mod Ties

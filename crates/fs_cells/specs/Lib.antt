@@ -1,0 +1,5 @@
+pub mod Actions
+pub mod Laws
+pub mod Parts
+pub mod Standing
+pub mod Values
