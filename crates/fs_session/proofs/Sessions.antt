@@ -9,8 +9,7 @@ use Rattle.fs_model.specs.declared.op.Txn.{Txn}
 use Rattle.fs_model.specs.declared.op.Why.{Why}
 use Rattle.fs_model.specs.Objects.{Object, look}
 use Rattle.fs_model.specs.Check.{txn_refusal}
-use Rattle.fs_model.specs.declared.page.Page.{Page}
-use Rattle.fs_model.specs.Listing.{listing}
+use Rattle.fs_model.specs.Listing.{Page, listing}
 use Rattle.fs_script.specs.declared.statement.Statement.{Statement}
 use Rattle.fs_script.specs.declared.statement.Statement.TheVariants.{Do, Begin, End, Drain, Read, Stat, Attrs, Omap, List as ListIn, Colls, Acked}
 use Rattle.fs_script.specs.declared.statement.Line.{Line}
@@ -18,7 +17,7 @@ use Rattle.fs_script.specs.declared.answer.Answer.{Answer}
 use Rattle.fs_script.specs.declared.answer.Answer.TheVariants.{Queued, TooLarge, RingFull, QueueFull, NumbersSpent, Drained}
 use Rattle.fs_script.specs.Printed.{answer_text}
 use Rattle.fs_session.specs.Room.{queue_limit, last_number, payload_len, room_for}
-use Rattle.fs_session.specs.Answers.{Session, IsCounted, Step, silent, answering, colls_queued, free_bytes, room_answer, refused_or, queue_answer, queued_if, queue_step, txn_of, op_step, end_step, found, bytes_answer, size_answer, attrs_answer, omap_answer, page_answer, cursor_oid, step, followed_by, run_lines, session_after, queued_by, answers, answers_text}
+use Rattle.fs_session.specs.Answers.{Session, IsCounted, Step, silent, answering, colls_queued, free_bytes, room_answer, refused_or, queue_answer, queued_if, queue_step, txn_of, op_step, end_step, bytes_answer, size_answer, attrs_answer, omap_answer, page_answer, cursor_oid, step, followed_by, run_lines, session_after, queued_by, answers, answers_text}
 
 -- lines behind others
 
@@ -77,9 +76,25 @@ of_queue-quiet : (n : ℕ) (a : Answer) → OfQueue n a → IsQuiet a
 of_queue-quiet n (Drained acked seq) h = absurd h
 of_queue-quiet n _ h = tt
 
-found-quiet : {A : Type 0} (o : Option A) (answer : A → Answer) → ((x : A) → IsQuiet (answer x)) → IsQuiet (found o answer)
-found-quiet None answer h = tt
-found-quiet (Some x) answer h = h x
+bytes-quiet : (o : Option Object) (at len : ℕ) → IsQuiet (bytes_answer o at len)
+bytes-quiet None at len = tt
+bytes-quiet (Some x) at len = tt
+
+size-quiet : (o : Option Object) → IsQuiet (size_answer o)
+size-quiet None = tt
+size-quiet (Some x) = tt
+
+attrs-quiet : (o : Option Object) → IsQuiet (attrs_answer o)
+attrs-quiet None = tt
+attrs-quiet (Some x) = tt
+
+omap-quiet : (o : Option Object) → IsQuiet (omap_answer o)
+omap-quiet None = tt
+omap-quiet (Some x) = tt
+
+page-quiet : (page : Option Page) → IsQuiet (page_answer page)
+page-quiet None = tt
+page-quiet (Some x) = tt
 
 -- what the answers acknowledge is at most this
 abbrev pub Within : ℕ → List Answer → Type 0
@@ -105,20 +120,20 @@ split-at : {X : Type 0} (x : X) (xs : List X) (q : X) (k : ℕ) → k < length (
 split-at x xs q zero lt is = inl is
 split-at x xs q (suc k) lt is = inr (k, omega (arith, lt), is)
 
+within-tail : (n : ℕ) (x : Answer) (xs : List Answer) → Within n (x ∷ xs) → Within n xs
+within-tail n (Drained acked seq) xs h = h.1
+within-tail n _ xs h = h
+
+within-head : (n : ℕ) (x : Answer) (xs : List Answer) (acked seq : ℕ) → x ≡ Drained acked seq → Within n (x ∷ xs) → acked ≤ n
+within-head n x xs acked seq e h = (subst (λ (y : Answer). Within n (y ∷ xs)) e h).0
+
 within-contains : (n : ℕ) (xs : List Answer) (acked seq : ℕ) → Within n xs → Contains xs (Drained acked seq) → acked ≤ n
 within-contains n [] acked seq h c = absurd (omega (arith, c.1))
-within-contains n (x ∷ xs) acked seq h c = by-place (split-at x xs (Drained acked seq) c.0 c.1 c.2)
-  where
-    tail : (n : ℕ) (x : Answer) (xs : List Answer) → Within n (x ∷ xs) → Within n xs
-    tail n (Drained a b) xs h = h.1
-    tail n _ xs h = h
-
-    head : (n : ℕ) (x : Answer) (xs : List Answer) (acked seq : ℕ) → x ≡ Drained acked seq → Within n (x ∷ xs) → acked ≤ n
-    head n x xs acked seq e h = (subst (λ (y : Answer). Within n (y ∷ xs)) e h).0
-
-    by-place : (x ≡ Drained acked seq) ⊎ Contains xs (Drained acked seq) → acked ≤ n
-    by-place (inl e) = head n x xs acked seq e h
-    by-place (inr there) = within-contains n xs acked seq (tail n x xs h) there
+within-contains n (x ∷ xs) acked seq h c =
+    elim (split-at x xs (Drained acked seq) c.0 c.1 c.2) as (λ _. acked ≤ n) [
+      | inl e ↦ within-head n x xs acked seq e h
+      | inr there ↦ within-contains n xs acked seq (within-tail n x xs h) there
+    ]
 
 -- what one step changes: the last number by what it queues; what was acknowledged and what waits stay all that was queued
 
@@ -154,11 +169,11 @@ one-step s (Do op) = op-step s.opened s op
 one-step s Begin = record { number = omega arith; counted = λ c. c; later = λ _. omega arith; within = λ _. tt }
 one-step s End = end-step s.opened s
 one-step s Drain = record { number = omega arith; counted = λ c. omega arith; later = λ c. omega (arith, c); within = λ c. (omega arith, tt) }
-one-step s (Read c o at len) = stays s (bytes_answer (look s.objects c o) at len) (found-quiet _ _ (λ _. tt))
-one-step s (Stat c o) = stays s (size_answer (look s.objects c o)) (found-quiet _ _ (λ _. tt))
-one-step s (Attrs c o) = stays s (attrs_answer (look s.objects c o)) (found-quiet _ _ (λ _. tt))
-one-step s (Omap c o) = stays s (omap_answer (look s.objects c o)) (found-quiet _ _ (λ _. tt))
-one-step s (ListIn c cursor max) = stays s (page_answer (listing s.objects c (cursor_oid cursor) max)) (found-quiet _ _ (λ _. tt))
+one-step s (Read c o at len) = stays s (bytes_answer (look s.objects c o) at len) (bytes-quiet (look s.objects c o) at len)
+one-step s (Stat c o) = stays s (size_answer (look s.objects c o)) (size-quiet (look s.objects c o))
+one-step s (Attrs c o) = stays s (attrs_answer (look s.objects c o)) (attrs-quiet (look s.objects c o))
+one-step s (Omap c o) = stays s (omap_answer (look s.objects c o)) (omap-quiet (look s.objects c o))
+one-step s (ListIn c cursor max) = stays s (page_answer (listing s.objects c (cursor_oid cursor) max)) (page-quiet (listing s.objects c (cursor_oid cursor) max))
 one-step s Colls = stays s _ tt
 one-step s Acked = stays s _ tt
 

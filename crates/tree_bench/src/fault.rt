@@ -23,7 +23,7 @@ pub enum Fault {
 }
 
 impl From<EdgeFault> for Fault {
-    ghost use Rattle.tree_bench.specs.declared.fault.Fault.TheVariants.{Edge, Name, Memory};
+    ghost use Rattle.tree_bench.specs.declared.fault.Fault.TheVariants.{Edge};
 
     ghost from_gives = { λ _ f. f ≡ Edge };
 
@@ -33,7 +33,7 @@ impl From<EdgeFault> for Fault {
 }
 
 impl From<TreeError> for Fault {
-    ghost use Rattle.tree_bench.specs.Faults.{of_tree, of_index};
+    ghost use Rattle.tree_bench.specs.Faults.{of_tree};
 
     ghost from_gives = { λ fault f. f ≡ of_tree fault };
 
@@ -46,6 +46,8 @@ impl From<TreeError> for Fault {
 }
 
 impl From<IndexFault> for Fault {
+    ghost use Rattle.tree_bench.specs.Faults.{of_index};
+
     ghost from_gives = { λ fault f. f ≡ of_index fault };
 
     fn from(fault: IndexFault) -> Fault {
@@ -58,6 +60,8 @@ impl From<IndexFault> for Fault {
 }
 
 impl From<NameFault> for Fault {
+    ghost use Rattle.tree_bench.specs.declared.fault.Fault.TheVariants.{Name};
+
     ghost from_gives = { λ fault f. f ≡ Name fault };
 
     fn from(fault: NameFault) -> Fault {
@@ -66,6 +70,8 @@ impl From<NameFault> for Fault {
 }
 
 impl From<AllocError> for Fault {
+    ghost use Rattle.tree_bench.specs.declared.fault.Fault.TheVariants.{Memory};
+
     ghost from_gives = { λ _ f. f ≡ Memory };
 
     fn from(_fault: AllocError) -> Fault {

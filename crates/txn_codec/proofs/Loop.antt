@@ -1,7 +1,8 @@
 -- Reading values one after the other, as a loop does.
 use Rattle.std.proofs.Common.{◌≡◌, ℕ, suc, ◌-◌, ◌+◌, ◌<◌, List, [], ◌∷◌, ◌++◌, Result, Ok, Err, refl, sym, ap, ◌∙◌, append_assoc, arith}
 use Rattle.txn_codec.specs.declared.fault.CodecFault.{CodecFault}
-use Rattle.txn_codec.specs.Reading.{Rest, Reader, ◌>>=◌, repeated}
+use Rattle.txn_codec.specs.declared.fault.CodecFault.TheVariants.{Short, BadTag, BadLength, Trailing, Memory}
+use Rattle.txn_codec.specs.Reading.{Rest, Reader, ◌>>=◌, repeated, IsFault}
 
 module _ {A : Type 0} (read : Reader A) where
   -- what was read before, and what is still read
@@ -24,3 +25,19 @@ module _ {A : Type 0} (read : Reader A) where
       let k : count - i ≡ suc (count - (i + 1)) = omega arith in
       let one : with_front front (repeated (count - i) read r) ≡ with_front (front ++ a ∷ []) (repeated (count - (i + 1)) read after) = rw (k, h) (regroup front a (repeated (count - (i + 1)) read after)) in
       sym one ∙ so_far
+
+  fails : (front : List A) (count i : ℕ) (r : Rest) (fault : CodecFault) (total : Result (List A × Rest) CodecFault) → i < count → read r ≡ Err fault
+      → with_front front (repeated (count - i) read r) ≡ total → total ≡ Err fault
+  fails front count i r fault total lt h so_far =
+      let k : count - i ≡ suc (count - (i + 1)) = omega arith in
+      let one : with_front front (repeated (count - i) read r) ≡ Err fault = rw (k, h) refl in
+      sym so_far ∙ one
+
+  -- a value's fault is that of the values
+  pub fault_goes : (front : List A) (count i : ℕ) (r : Rest) (fault : CodecFault) (total : Result (List A × Rest) CodecFault) → i < count → IsFault fault (read r)
+      → with_front front (repeated (count - i) read r) ≡ total → IsFault fault total
+  fault_goes front count i r Memory total lt h so_far = tt
+  fault_goes front count i r (Short at) total lt h so_far = fails front count i r (Short at) total lt h so_far
+  fault_goes front count i r (BadTag at) total lt h so_far = fails front count i r (BadTag at) total lt h so_far
+  fault_goes front count i r (BadLength at) total lt h so_far = fails front count i r (BadLength at) total lt h so_far
+  fault_goes front count i r (Trailing at) total lt h so_far = fails front count i r (Trailing at) total lt h so_far

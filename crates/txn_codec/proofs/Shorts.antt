@@ -1,5 +1,5 @@
 -- Operations within their limits have a spelling.
-use Rattle.std.proofs.Common.{◌≡◌, ◌+◌, ◌<◌, ◌≤◌, ◌^◌, ◌||◌, ℕ, Bool, true, false, ltb, eqb, List, [], ◌∷◌, length, Option, Some, None, refl, arith}
+use Rattle.std.proofs.Common.{◌≡◌, ◌+◌, ◌<◌, ◌≤◌, ◌^◌, ◌||◌, ℕ, Bool, true, false, ltb, eqb, List, [], ◌∷◌, length, Option, Some, None, refl, ap, ◌∙◌, arith}
 use Rattle.std.specs.List.{AllByRecursion, list_any}
 use Rattle.std.proofs.lemmas.Bool.{ltb-false}
 use Rattle.fs_model.specs.declared.op.Op.{Op}
@@ -61,7 +61,12 @@ small_op (MkColl c) h = tt
 small_op (RmColl c) h = tt
 small_op (OmapClear c o) h = tt
 small_op (OmapSet c o head pairs) h =
-    (header_fits head (first _ _ h), all_fit big_pair PairFits pair_fits pairs (second (ltb 65536 (length (unwrap_or head []))) _ h))
+    let big_head = ltb 65536 (length (unwrap_or head [])) in
+    let many = ltb 65536 (length pairs) in
+    let any = list_any big_pair pairs in
+    let front : (big_head || many) ≡ false = first (big_head || many) any h in
+    let rest : (many || any) ≡ false = ap (λ b. b || any) (second big_head many front) ∙ second (big_head || many) any h in
+    (header_fits head (first big_head many front), all_fit big_pair PairFits pair_fits pairs rest)
 small_op (OmapRemove c o keys) h = all_fit big_key BlobFits key_fits keys h
 small_op (OmapRange c o from to) h = (key_fits from (first _ _ h), key_fits to (second (big_key from) _ h))
 

@@ -322,7 +322,11 @@ impl Reader<'_> {
     {
         let mut ops = Vec::new(alloc);
         for _ in 0..count {
-            ops.push(self.op(alloc)?)?;
+            let op = match self.op(alloc) {
+                Ok(op) => op,
+                Err(fault) => return Err(fault),
+            };
+            ops.push(op)?;
         }
         Ok(ops)
     }

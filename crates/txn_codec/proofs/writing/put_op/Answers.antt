@@ -38,7 +38,7 @@ returns-in_ok-put_u64-in-Truncate-clause-spelled c =
 pub returns-in_ok-put_pairs-in-SetAttrs-clause-spelled : goal.returns-in_ok-put_pairs-in-SetAttrs-clause-spelled
 returns-in_ok-put_pairs-in-SetAttrs-clause-spelled c =
     let a : List ℕ = counted pair c.in-SetAttrs.pairs in
-    c.in_ok-put_pairs-in-SetAttrs.ensures ∙ ap (λ (l : List Pair). c.put_head-in-SetAttrs.new.out.items ++ counted pair l) c.slice-in-SetAttrs.ensures ∙ ap (λ (l : List ℕ). l ++ a) (c.in_ok-put_head-in-SetAttrs.ensures.spelled)
+    c.in_ok-put_pairs-in-SetAttrs.ensures ∙ ap (λ (l : List Pair). c.put_head-in-SetAttrs.new.out.items ++ counted pair l) c.slice.ensures ∙ ap (λ (l : List ℕ). l ++ a) (c.in_ok-put_head-in-SetAttrs.ensures.spelled)
     ∙ one c.args.out.now.items (object c.in-SetAttrs.c c.in-SetAttrs.o) a 6
     ∙ ap (λ (o : Op). c.args.out.now.items ++ op o) (sym c.in-SetAttrs.is)
 
@@ -61,7 +61,7 @@ pub returns-in_ok-put_pairs-in-OmapSet-clause-spelled : goal.returns-in_ok-put_p
 returns-in_ok-put_pairs-in-OmapSet-clause-spelled c =
     let a : List ℕ = header c.in-OmapSet.header in
     let b : List ℕ = counted pair c.in-OmapSet.pairs in
-    c.in_ok-put_pairs-in-OmapSet.ensures ∙ ap (λ (l : List Pair). c.put_header-in-OmapSet.new.out.items ++ counted pair l) c.slice-in-OmapSet.ensures ∙ ap (λ (l : List ℕ). l ++ b) (c.in_ok-put_header-in-OmapSet.ensures ∙ ap (λ (l : List ℕ). l ++ a) (c.in_ok-put_head-in-OmapSet.ensures.spelled))
+    c.in_ok-put_pairs-in-OmapSet.ensures ∙ ap (λ (l : List Pair). c.put_header.new.out.items ++ counted pair l) c.slice-in-OmapSet.ensures ∙ ap (λ (l : List ℕ). l ++ b) (c.in_ok-put_header-in-OmapSet.ensures ∙ ap (λ (l : List ℕ). l ++ a) (c.in_ok-put_head-in-OmapSet.ensures.spelled))
     ∙ two c.args.out.now.items (object c.in-OmapSet.c c.in-OmapSet.o) a b 15
     ∙ ap (λ (o : Op). c.args.out.now.items ++ op o) (sym c.in-OmapSet.is)
 
