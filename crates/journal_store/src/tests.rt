@@ -102,9 +102,7 @@ fn fault_of(alloc: Global, txn: Txn) -> Result<Option<QueueFault>, Fail> {
 }
 
 #[test]
-fn a_transaction_is_refused_for_its_operations_and_then_for_room(
-    rt: HostRuntime,
-) -> Result<(), Fail> {
+fn a_transaction_is_refused_for_its_first_refused_operation(rt: HostRuntime) -> Result<(), Fail> {
     let alloc = rt.alloc();
     let missing = fault_of(alloc, write(alloc)?)?;
     let why = Why::NoCollection;
