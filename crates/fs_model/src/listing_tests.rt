@@ -81,7 +81,8 @@ fn collections_go_by_their_texts(rt: HostRuntime) -> Result<(), Fail> {
         &["meta", "2.0_head", "10.a_head", "10.1_head", "10.1_TEMP"],
     )?;
     let mut out = Vec::new(rt.alloc());
-    for c in objects.coll_names()?.slice() {
+    let colls = objects.coll_names()?;
+    for c in colls.slice() {
         out.extend_from_slice(encode_coll(rt.alloc(), c)?.slice())?;
         out.push(b' ')?;
     }

@@ -70,26 +70,66 @@ fn drained(
     }
 }
 
+// The store after `make` and `write`.
+fn written(alloc: Global) -> Result<JournalStore, Fail> {
+    let first = make(alloc)?;
+    let second = write(alloc)?;
+    let mut device = new_journal(alloc)?;
+    Ok(drained(alloc, &mut device, first, second).ok_or("a store")?)
+}
+
+// The object's second to fourth byte are these.
+fn says(store: &JournalStore, c: &Coll, o: &Oid, bytes: &[u8]) -> bool {
+    match store.read(c, o, 1, 3) {
+        Ok(Some(read)) => read.slice() == bytes,
+        _ => false,
+    }
+}
+
+// How many attributes the object has.
+fn attr_count(store: &JournalStore, c: &Coll, o: &Oid) -> Option<usize> {
+    match store.attrs(c, o) {
+        Ok(Some(pairs)) => Some(pairs.slice().len()),
+        _ => None,
+    }
+}
+
+// How many omap pairs the object has.
+fn pair_count(store: &JournalStore, c: &Coll, o: &Oid) -> Option<usize> {
+    match store.omap(c, o) {
+        Ok(Some((_, pairs))) => Some(pairs.slice().len()),
+        _ => None,
+    }
+}
+
+// How many objects a page of the collection shows.
+fn object_count(store: &JournalStore, c: &Coll) -> Option<usize> {
+    match store.list(c, None, 10) {
+        Ok(Some(page)) => Some(page.oids.slice().len()),
+        _ => None,
+    }
+}
+
+// How many collections there are.
+fn coll_count(store: &JournalStore) -> Option<usize> {
+    match store.colls() {
+        Ok(colls) => Some(colls.slice().len()),
+        Err(_) => None,
+    }
+}
+
 #[test]
 fn what_was_queued_is_read_once_it_is_drained(rt: HostRuntime) -> Result<(), Fail> {
-    let alloc = rt.alloc();
-    let mut device = new_journal(alloc)?;
-    let store = drained(alloc, &mut device, make(alloc)?, write(alloc)?).ok_or("a store")?;
-    assert_eq!(rt; store.last(), 2);
-    assert_eq!(rt; store.acked(), 2);
     let c = group()?;
-    let o = object(alloc)?;
-    assert_eq!(rt; store.stat(&c, &o), Some(5));
-    let bytes = store.read(&c, &o, 1, 3)?.ok_or("an object")?;
-    assert!(rt; bytes.slice() == b"ell".as_slice());
-    let attrs = store.attrs(&c, &o)?.ok_or("an object")?;
-    assert_eq!(rt; attrs.slice().len(), 0);
-    let (header, pairs) = store.omap(&c, &o)?.ok_or("an object")?;
-    assert_eq!(rt; header.slice().len() + pairs.slice().len(), 0);
-    let page = store.list(&c, None, 10)?.ok_or("a collection")?;
-    assert_eq!(rt; page.oids.slice().len(), 1);
-    assert!(rt; page.next.is_none());
-    assert_eq!(rt; store.colls()?.slice().len(), 1);
+    let o = object(rt.alloc())?;
+    let store = written(rt.alloc())?;
+    assert!(rt; store.last() == 2 && store.acked() == 2);
+    assert!(rt; store.stat(&c, &o) == Some(5));
+    assert!(rt; says(&store, &c, &o, b"ell"));
+    assert!(rt; attr_count(&store, &c, &o) == Some(0));
+    assert!(rt; pair_count(&store, &c, &o) == Some(0));
+    assert!(rt; object_count(&store, &c) == Some(1));
+    assert!(rt; coll_count(&store) == Some(1));
     Ok(())
 }
 
@@ -103,17 +143,9 @@ fn fault_of(alloc: Global, txn: Txn) -> Result<Option<QueueFault>, Fail> {
 
 #[test]
 fn a_transaction_is_refused_for_its_first_refused_operation(rt: HostRuntime) -> Result<(), Fail> {
-    let alloc = rt.alloc();
-    let missing = fault_of(alloc, write(alloc)?)?;
+    let txn = write(rt.alloc())?;
+    let fault = fault_of(rt.alloc(), txn)?;
     let why = Why::NoCollection;
-    assert_eq!(rt; missing, Some(QueueFault::Txn { op: 0, why }));
-    let empty = Txn {
-        ops: OpList::from_vec(Vec::new(alloc)),
-    };
-    let why = Why::Empty;
-    assert_eq!(rt;
-        fault_of(alloc, empty)?,
-        Some(QueueFault::Txn { op: 0, why })
-    );
+    assert!(rt; fault == Some(QueueFault::Txn { op: 0, why }));
     Ok(())
 }
