@@ -3,12 +3,12 @@ use Rattle.std.proofs.Common.{◌≡◌, ℕ, zero, suc, ◌+◌, ◌<◌, ◌�
 use Rattle.std.specs.Option.{option_map_or}
 use Rattle.std.specs.List.{flat_map, AllByRecursion}
 use Rattle.std.proofs.lemmas.Bool.{cases_lt, ltb-false, le-ltb}
-use Rattle.std.proofs.lemmas.List.{take_at, drop_at, take-append-drop, length-append, length-take, get_or-drop, get_or-take, get_or_past, append-nil}
+use Rattle.std.proofs.lemmas.List.{take_at, drop_at, take-append-drop, length-append, length-take, get_or-drop, get_or-take, get_or_past}
 use Rattle.std.proofs.lemmas.List.Concat.{flat_map-cons}
 use Rattle.std.proofs.lemmas.Option.{same_Some}
 use Rattle.txn_codec.specs.declared.fault.CodecFault.{CodecFault}
 use Rattle.txn_codec.specs.declared.fault.CodecFault.TheVariants.{Short, BadTag}
-use Rattle.txn_codec.specs.Reading.{Rest, Reader, ◌>>=◌, ◌&◌, mapped, given, field, byte_of, tagged, repeated}
+use Rattle.txn_codec.specs.Reading.{Rest, Reader, ◌>>=◌, ◌&◌, mapped, given, field, tagged, repeated}
 
 abbrev pub IsBytes : List ℕ → Type 0
 IsBytes bytes = (i : ℕ) → get_or bytes i 0 < 256

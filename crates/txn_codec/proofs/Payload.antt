@@ -1,7 +1,6 @@
 -- Each part of a payload is read as it was spelled.
-use Rattle.std.proofs.Common.{◌≡◌, ℕ, zero, suc, ◌+◌, ◌*◌, ◌^◌, ◌<◌, ◌≤◌, Bool, true, false, cond, ltb, eqb, List, [], ◌∷◌, ◌++◌, length, get_or, Option, Some, None, is_none, Result, Ok, Err, refl, sym, ap, subst, ◌∙◌, append_assoc, arith}
-use Rattle.std.specs.Int.{w16, w32, w64}
-use Rattle.std.specs.List.{flat_map, All, AllByRecursion}
+use Rattle.std.proofs.Common.{◌≡◌, ℕ, zero, suc, ◌+◌, ◌^◌, ◌<◌, ◌≤◌, Bool, true, false, cond, ltb, eqb, List, [], ◌∷◌, ◌++◌, length, Option, Some, None, Result, Ok, Err, refl, sym, ap, subst, ◌∙◌, append_assoc, arith}
+use Rattle.std.specs.List.{flat_map, All}
 use Rattle.std.specs.Prelude.{IfSome}
 use Rattle.std.proofs.lemmas.Bool.{ltb-false, le-ltb, eqb-true}
 use Rattle.std.proofs.lemmas.List.{append-nil, nil_from_length, length-append, get_or_default}
@@ -18,12 +17,11 @@ use Rattle.fs_names.specs.Codes.{oid_pack, oid_unpack}
 use Rattle.fs_names.specs.Reading.{CollFits, OidFits, SnapFits}
 use Rattle.fs_model.specs.declared.op.Op.{Op}
 use Rattle.fs_model.specs.declared.op.Op.TheVariants.{Touch, Write, Zero, Truncate, Remove, SetAttrs, RmAttr, RmAttrs, Clone, CloneRange, MoveRename, MkColl, RmColl, OmapClear, OmapSet, OmapRemove, OmapRange}
-use Rattle.fs_model.specs.declared.pair.Pair.{Pair}
 use Rattle.txn_codec.specs.declared.fault.CodecFault.{CodecFault}
-use Rattle.txn_codec.specs.declared.fault.CodecFault.TheVariants.{Short, BadTag, BadLength, Trailing}
+use Rattle.txn_codec.specs.declared.fault.CodecFault.TheVariants.{BadLength, Trailing}
 use Rattle.txn_codec.specs.Spelling.{sized, flag, coll, snap, pool, oid, blob, pair, header, counted, op, payload, BlobFits, PairFits, HeaderFits, AllFit, OpFits, OpsFit}
-use Rattle.txn_codec.specs.Reading.{Rest, Reader, ◌>>=◌, ◌&◌, mapped, given, field, number, tagged, flag_follows, coll_follows, snap_follows, pool_follows, name_at, blob_at, coll_at, oid_at, op_follows, op_at, repeated, counted_at, pair_of, pair_at, pairs_at, blobs_at, header_follows, object_at, touch, write, zero_part, truncate, remove, set_attrs, rm_attr, rm_attrs, clone, clone_range, move_rename, omap_clear, omap_set, omap_remove, omap_range, ops_at, decoded}
-use Rattle.txn_codec.proofs.Codec.{IsBytes, rest_of, got, bind_ok, guard_ok, test_ok, ok_is, Takes, Codec, TakesField, field_takes, field_again, both, both_spell, both_fit, mapped_takes, mapped_again, TakesTag, Tags, HasTag, tagged_codec, given_takes, given_again, fields_take, fields_again, TakesAll, all_take, all_again}
+use Rattle.txn_codec.specs.Reading.{Rest, Reader, ◌>>=◌, ◌&◌, mapped, field, number, tagged, flag_follows, coll_follows, snap_follows, pool_follows, name_at, blob_at, coll_at, oid_at, op_follows, op_at, repeated, counted_at, pair_of, pair_at, pairs_at, blobs_at, header_follows, object_at, touch, write, zero_part, truncate, remove, set_attrs, rm_attr, rm_attrs, clone, clone_range, move_rename, omap_clear, omap_set, omap_remove, omap_range, ops_at, decoded}
+use Rattle.txn_codec.proofs.Codec.{IsBytes, rest_of, got, bind_ok, guard_ok, test_ok, ok_is, Takes, Codec, TakesField, field_takes, field_again, both, both_spell, both_fit, mapped_takes, mapped_again, TakesTag, HasTag, tagged_codec, given_takes, given_again, fields_take, fields_again, TakesAll, all_take, all_again}
 
 -- ---- numbers
 

@@ -1,6 +1,5 @@
-use Rattle.std.proofs.Common.{◌≡◌, ◌++◌, ◌∷◌, [], List, Result, ap, sym, ◌∙◌}
 use Rattle.txn_codec.specs.Reading.{blob_at, repeated}
-use Rattle.txn_codec.proofs.Loop.{with_front, goes_on}
+use Rattle.txn_codec.proofs.Loop.{goes_on}
 use Rattle.txn_codec.proofs.reader.Reader.some_blobs.Goals as goal
 
 pub loop-preserved : goal.loop-preserved

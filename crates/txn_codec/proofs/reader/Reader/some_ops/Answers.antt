@@ -1,7 +1,5 @@
-use Rattle.std.proofs.Common.{◌≡◌, ◌++◌, ◌∷◌, [], List, Result, ap, sym, ◌∙◌}
-use Rattle.fs_model.specs.declared.op.Op.{Op}
 use Rattle.txn_codec.specs.Reading.{op_at, repeated}
-use Rattle.txn_codec.proofs.Loop.{with_front, goes_on, fault_goes}
+use Rattle.txn_codec.proofs.Loop.{goes_on, fault_goes}
 use Rattle.txn_codec.proofs.reader.Reader.some_ops.Goals as goal
 
 pub loop-preserved : goal.loop-preserved
