@@ -10,7 +10,10 @@ use Rattle.std.proofs.lemmas.List.Sums.{fold-append}
 use Rattle.fs_model.specs.declared.op.Op.{Op}
 use Rattle.fs_model.specs.declared.op.Txn.{Txn}
 use Rattle.fs_model.specs.declared.op.Why.{Why}
-use Rattle.fs_model.specs.Objects.{Objects}
+use Rattle.std.specs.FinMap as fin
+use Rattle.fs_model.specs.declared.pair.Pair.{Pair}
+use Rattle.fs_model.specs.Objects.{ByteMap, Objects}
+use Rattle.fs_model.specs.Plain.{entry_of}
 use Rattle.fs_model.specs.Colls.{CollSet, colls_of}
 use Rattle.fs_model.specs.Rows.{fold_ops}
 use Rattle.fs_model.specs.Check.{op_colls, colls_after, txn_refusal, IsWithinLimits}
@@ -22,7 +25,7 @@ use Rattle.txn_codec.specs.Spelling.{payload, OpsFit}
 use Rattle.txn_journal.specs.Held.{IsWritable, Spell, needs, last_of, with_more}
 use Rattle.fs_script.specs.declared.answer.Answer.{Answer}
 use Rattle.fs_script.specs.declared.answer.Answer.TheVariants as answers
-use Rattle.fs_session.specs.Answers.{Session, waiting_ops, colls_queued, free_bytes, room_answer, refused_or, queue_answer, queued_if, queue_step, after_drain}
+use Rattle.fs_session.specs.Answers.{Session, waiting_ops, colls_queued, free_bytes, room_answer, refused_or, queue_answer, queued_if, queue_step, after_drain, pairs_of}
 use Rattle.fs_session.specs.Room.{last_number, payload_len, need_of, needs_of, queue_limit, room_for}
 use Rattle.journal_store.specs.Kept.{Store, IsKept, ops_of, session_on}
 use Rattle.journal_store.specs.declared.fault.QueueFault.{QueueFault}
@@ -209,3 +212,12 @@ room_queued size free waiting last len seq e =
     let four = pass seq (nat_le last_number last) answers.NumbersSpent _ (λ q. absurd (cc)) three.1 in
     let wide = or_false (nat_lt size (need len)) (nat_le (2 ^ 32) len) one.0 in
     (ltb-false free (need len) two.0, leb-false (2 ^ 32) len wide.1, leb-false last_number last four.0, queued_same seq (last + 1) four.1)
+
+-- ---- pairs
+
+pairs_back : (ps : List Pair) → ps ≡ map (λ entry. record { key = entry.0; value = entry.1 }) (map entry_of ps)
+pairs_back [] = refl
+pairs_back (p ∷ ps) = ap (λ (l : List Pair). p ∷ l) (pairs_back ps)
+
+pub pairs_are : (ps : List Pair) (m : ByteMap) → map entry_of ps ≡ fin.entries m → ps ≡ pairs_of m
+pairs_are ps m e = pairs_back ps ∙ ap (map (λ entry. record { key = entry.0; value = entry.1 })) e

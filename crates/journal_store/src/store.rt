@@ -91,6 +91,7 @@ impl JournalStore {
     // The room beside all that is queued.
     fn room(&self) -> Room
         ensures size { result.size ≡ self.now.session.size }
+        ensures fits { result.size < 2 ^ 64 }
         ensures free { result.free ≡ free_bytes self.now.session }
         ensures waiting { result.waiting ≡ length self.now.session.waiting }
         ensures last { result.last ≡ self.now.session.last }
