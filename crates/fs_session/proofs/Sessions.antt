@@ -9,7 +9,8 @@ use Rattle.fs_model.specs.declared.op.Txn.{Txn}
 use Rattle.fs_model.specs.declared.op.Why.{Why}
 use Rattle.fs_model.specs.Objects.{Object, look}
 use Rattle.fs_model.specs.Check.{txn_refusal}
-use Rattle.fs_model.specs.Listing.{Page, listing}
+use Rattle.fs_model.specs.declared.page.Page.{Page}
+use Rattle.fs_model.specs.Listing.{listing}
 use Rattle.fs_script.specs.declared.statement.Statement.{Statement}
 use Rattle.fs_script.specs.declared.statement.Statement.TheVariants.{Do, Begin, End, Drain, Read, Stat, Attrs, Omap, List as ListIn, Colls, Acked}
 use Rattle.fs_script.specs.declared.statement.Line.{Line}

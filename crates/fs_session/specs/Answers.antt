@@ -11,7 +11,8 @@ use Rattle.fs_model.specs.Objects.{ByteMap, Object, Objects, look}
 use Rattle.fs_model.specs.Colls.{CollSet, colls_of}
 use Rattle.fs_model.specs.Rows.{fold_ops}
 use Rattle.fs_model.specs.Check.{txn_refusal, colls_after}
-use Rattle.fs_model.specs.Listing.{Page, listing}
+use Rattle.fs_model.specs.declared.page.Page.{Page}
+use Rattle.fs_model.specs.Listing.{listing}
 use Rattle.fs_script.specs.declared.statement.Cursor.{Cursor}
 use Rattle.fs_script.specs.declared.statement.Cursor.TheVariants.{Start, At}
 use Rattle.fs_script.specs.declared.statement.Statement.{Statement}
