@@ -10,7 +10,7 @@ use Rattle.io_edge.specs.Pieces.{IsPast}
 use Rattle.fs_script.specs.declared.statement.Line.{Line}
 use Rattle.fs_script.specs.declared.fault.ScriptWhy.TheVariants.{TooLong}
 use Rattle.fs_script.specs.Grammar.{script_said, script_limit}
-use Rattle.fs_script.specs.Answers.{Session, answers_text}
+use Rattle.fs_session.specs.Answers.{Session, answers_text}
 use Rattle.filestore_cli.specs.declared.command.Command.{Command}
 use Rattle.filestore_cli.specs.declared.command.Command.TheVariants.{RunNew, Run}
 use Rattle.filestore_cli.specs.declared.stop.Refusal.{Refusal}

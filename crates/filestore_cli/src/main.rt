@@ -4,13 +4,10 @@
 #![tactic(auto)]
 
 mod command;
-mod hash_order;
-mod page;
 mod run;
 mod status;
 mod step;
 mod stop;
-mod store;
 #[cfg(test)]
 mod tests;
 

@@ -52,9 +52,21 @@ fn fault(alloc: Global, ops: Vec<Op>) -> Result<Option<TxnFault>, AllocError> {
     Ok(check_txn(alloc, &txn, &colls).err())
 }
 
-// The same of one operation.
-fn fault_of(alloc: Global, op: Result<Op, NameFault>) -> Result<Option<TxnFault>, Fail> {
-    Ok(fault(alloc, vec![in alloc; op?]?)?)
+// Whether one operation is refused for this reason, or taken.
+fn is_refused(alloc: Global, op: Result<Op, NameFault>, want: Option<Why>) -> bool {
+    match one_fault(alloc, op) {
+        Ok(found) => found == want.map(|why| TxnFault::At { op: 0, why }),
+        Err(_) => false,
+    }
+}
+
+fn one_fault(alloc: Global, op: Result<Op, NameFault>) -> Result<Option<TxnFault>, NameFault> {
+    let ops = one_op(alloc, op?)?;
+    Ok(fault(alloc, ops)?)
+}
+
+fn one_op(alloc: Global, op: Op) -> Result<Vec<Op>, AllocError> {
+    Ok(vec![in alloc; op]?)
 }
 
 #[test]
@@ -119,48 +131,49 @@ fn a_transaction_has_at_most_4096_operations(rt: HostRuntime) -> Result<(), Fail
 }
 
 #[test]
-fn each_operation_has_its_limits(rt: HostRuntime) -> Result<(), Fail> {
+fn zeros_and_lengths_have_their_limits(rt: HostRuntime) {
     let alloc = rt.alloc();
-    let at = |why: Why| Some(TxnFault::At { op: 0, why });
     for (from, len, want) in [
         (0, 16_777_216, None),
-        (1, 16_777_216, at(Why::TooBig)),
-        (u64::MAX, 1, at(Why::TooBig)),
+        (1, 16_777_216, Some(Why::TooBig)),
+        (u64::MAX, 1, Some(Why::TooBig)),
     ] {
-        assert_eq!(rt;
-            fault_of(alloc, zero(alloc, from, len))?,
-            want,
+        assert!(rt;
+            is_refused(alloc, zero(alloc, from, len), want),
             "{len} at {from}"
         );
     }
-    assert_eq!(rt;
-        fault_of(alloc, truncate(alloc, 16_777_217))?,
-        at(Why::TooBig)
+    assert!(rt; is_refused(alloc, truncate(alloc, 16_777_217), Some(Why::TooBig)));
+}
+
+#[test]
+fn names_and_keys_have_their_limits(rt: HostRuntime) {
+    let alloc = rt.alloc();
+    assert!(rt; is_refused(alloc, rm_attr(alloc, b""), Some(Why::TooBig)));
+    assert!(rt; is_refused(alloc, rm_attr(alloc, &[7; 255]), None));
+    assert!(rt; is_refused(alloc, rm_attr(alloc, &[7; 256]), Some(Why::TooBig)));
+    assert!(rt; is_refused(alloc, omap_remove(alloc, &[7; 1_024]), None));
+    assert!(rt; is_refused(alloc, omap_remove(alloc, &[7; 1_025]), Some(Why::TooBig)));
+    assert!(rt;
+        is_refused(
+            alloc,
+            omap_range(alloc, b"", &[7; 1_025]),
+            Some(Why::TooBig)
+        )
     );
-    assert_eq!(rt; fault_of(alloc, rm_attr(alloc, b""))?, at(Why::TooBig));
-    assert_eq!(rt; fault_of(alloc, rm_attr(alloc, &[7; 255]))?, None);
-    assert_eq!(rt;
-        fault_of(alloc, rm_attr(alloc, &[7; 256]))?,
-        at(Why::TooBig)
+}
+
+#[test]
+fn an_object_is_not_copied_onto_itself(rt: HostRuntime) {
+    let alloc = rt.alloc();
+    assert!(rt; is_refused(alloc, clone_to(alloc, b"a", 0, b"a"), Some(Why::SameObject)));
+    assert!(rt;
+        is_refused(
+            alloc,
+            move_to(alloc, b"a", 1, b"a"),
+            Some(Why::NoCollection)
+        )
     );
-    assert_eq!(rt; fault_of(alloc, omap_remove(alloc, &[7; 1_024]))?, None);
-    assert_eq!(rt;
-        fault_of(alloc, omap_remove(alloc, &[7; 1_025]))?,
-        at(Why::TooBig)
-    );
-    assert_eq!(rt;
-        fault_of(alloc, omap_range(alloc, b"", &[7; 1_025]))?,
-        at(Why::TooBig)
-    );
-    assert_eq!(rt;
-        fault_of(alloc, clone_to(alloc, b"a", 0, b"a"))?,
-        at(Why::SameObject)
-    );
-    assert_eq!(rt;
-        fault_of(alloc, move_to(alloc, b"a", 1, b"a"))?,
-        at(Why::NoCollection)
-    );
-    Ok(())
 }
 
 #[test]
@@ -182,9 +195,9 @@ fn a_change_of_collections_is_done_apart_from_its_check(rt: HostRuntime) -> Resu
     Ok(())
 }
 
-fn apply(objects: &mut PlainObjects, op: &Op) -> Result<(), Fail> {
+fn apply(objects: &mut PlainObjects, op: &Op) -> Result<(), NameFault> {
     if op.is_unfit() {
-        return Err("unfit")?;
+        return Err(NameFault::Memory);
     }
     objects.apply(op)?;
     Ok(())
@@ -363,20 +376,20 @@ fn show(alloc: Global, out: &mut Vec<u8>, object: Option<&PlainObject>) -> Resul
 }
 
 // The object `a` of `1.0_head`, and `b` of `1.0_head` and of `1.1_head`, between spaces.
-fn show_all(alloc: Global, objects: &PlainObjects) -> Result<Vec<u8>, Fail> {
+fn show_all(alloc: Global, objects: &PlainObjects) -> Result<Vec<u8>, NameFault> {
     let a = named(alloc, b"a")?;
     let b = named(alloc, b"b")?;
     let mut out = Vec::new(alloc);
     show(alloc, &mut out, objects.object(&group(0), &a))?;
-    out.push(b' ')?;
+    out.extend_from_slice(b" ")?;
     show(alloc, &mut out, objects.object(&group(0), &b))?;
-    out.push(b' ')?;
+    out.extend_from_slice(b" ")?;
     show(alloc, &mut out, objects.object(&group(1), &b))?;
     Ok(out)
 }
 
 // Two collections, and `a` with six bytes, two attributes, an omap header and three pairs.
-fn start(alloc: Global) -> Result<PlainObjects, Fail> {
+fn start(alloc: Global) -> Result<PlainObjects, NameFault> {
     let mut objects = PlainObjects::new(alloc);
     apply(&mut objects, &make(0))?;
     apply(&mut objects, &make(1))?;
@@ -387,23 +400,30 @@ fn start(alloc: Global) -> Result<PlainObjects, Fail> {
 }
 
 // What an operation leaves of that.
-fn after(alloc: Global, op: Result<Op, NameFault>) -> Result<Vec<u8>, Fail> {
+fn after(alloc: Global, op: Result<Op, NameFault>) -> Result<Vec<u8>, NameFault> {
     let mut objects = start(alloc)?;
     apply(&mut objects, &op?)?;
     show_all(alloc, &objects)
 }
 
+// Whether an operation leaves this of that.
+fn leaves(alloc: Global, op: Result<Op, NameFault>, want: &[u8]) -> bool {
+    match after(alloc, op) {
+        Ok(found) => found.as_slice() == want,
+        Err(_) => false,
+    }
+}
+
 #[test]
-fn operations_on_bytes_mean_their_rows(rt: HostRuntime) -> Result<(), Fail> {
+fn operations_on_bytes_mean_their_rows(rt: HostRuntime) {
     let alloc = rt.alloc();
     for (at, len, want) in [
         (1, 2, b"a\0\0def|x1y2|h|p1q2r3 - -".as_slice()),
         (5, 3, b"abcde\0\0\0|x1y2|h|p1q2r3 - -"),
         (8, 0, b"abcdef|x1y2|h|p1q2r3 - -"),
     ] {
-        assert_eq!(rt;
-            after(alloc, zero(alloc, at, len))?.as_slice(),
-            want,
+        assert!(rt;
+            leaves(alloc, zero(alloc, at, len), want),
             "{len} zeros at {at}"
         );
     }
@@ -411,17 +431,12 @@ fn operations_on_bytes_mean_their_rows(rt: HostRuntime) -> Result<(), Fail> {
         (2, b"ab|x1y2|h|p1q2r3 - -".as_slice()),
         (8, b"abcdef\0\0|x1y2|h|p1q2r3 - -"),
     ] {
-        assert_eq!(rt;
-            after(alloc, truncate(alloc, len))?.as_slice(),
-            want,
-            "length {len}"
-        );
+        assert!(rt; leaves(alloc, truncate(alloc, len), want), "length {len}");
     }
-    Ok(())
 }
 
 #[test]
-fn operations_on_pairs_mean_their_rows(rt: HostRuntime) -> Result<(), Fail> {
+fn operations_on_attributes_mean_their_rows(rt: HostRuntime) {
     let alloc = rt.alloc();
     for (pairs, want) in [
         (
@@ -430,12 +445,14 @@ fn operations_on_pairs_mean_their_rows(rt: HostRuntime) -> Result<(), Fail> {
         ),
         (b"", b"abcdef|x1y2|h|p1q2r3 - -"),
     ] {
-        assert_eq!(rt;
-            after(alloc, set_attrs(alloc, pairs))?.as_slice(),
-            want,
-            "{pairs:?}"
-        );
+        assert!(rt; leaves(alloc, set_attrs(alloc, pairs), want), "{pairs:?}");
     }
+    assert!(rt; leaves(alloc, rm_attr(alloc, b"x"), b"abcdef|y2|h|p1q2r3 - -"));
+}
+
+#[test]
+fn omap_pairs_are_set_and_a_header_where_given(rt: HostRuntime) {
+    let alloc = rt.alloc();
     for (header, pairs, want) in [
         (
             None,
@@ -444,12 +461,16 @@ fn operations_on_pairs_mean_their_rows(rt: HostRuntime) -> Result<(), Fail> {
         ),
         (Some(b"".as_slice()), b"o0", b"abcdef|x1y2||o0p1q2r3 - -"),
     ] {
-        assert_eq!(rt;
-            after(alloc, omap_set(alloc, header, pairs))?.as_slice(),
-            want,
+        assert!(rt;
+            leaves(alloc, omap_set(alloc, header, pairs), want),
             "{pairs:?}"
         );
     }
+}
+
+#[test]
+fn omap_pairs_go_by_key_or_by_a_range_without_its_end(rt: HostRuntime) {
+    let alloc = rt.alloc();
     for (from, to, want) in [
         (
             b"p".as_slice(),
@@ -460,9 +481,8 @@ fn operations_on_pairs_mean_their_rows(rt: HostRuntime) -> Result<(), Fail> {
         (b"r", b"p", b"abcdef|x1y2|h|p1q2r3 - -"),
         (b"pp", b"q", b"abcdef|x1y2|h|p1q2r3 - -"),
     ] {
-        assert_eq!(rt;
-            after(alloc, omap_range(alloc, from, to))?.as_slice(),
-            want,
+        assert!(rt;
+            leaves(alloc, omap_range(alloc, from, to), want),
             "{from:?}"
         );
     }
@@ -470,21 +490,12 @@ fn operations_on_pairs_mean_their_rows(rt: HostRuntime) -> Result<(), Fail> {
         (b"q".as_slice(), b"abcdef|x1y2|h|p1r3 - -".as_slice()),
         (b"o", b"abcdef|x1y2|h|p1q2r3 - -"),
     ] {
-        assert_eq!(rt;
-            after(alloc, omap_remove(alloc, key))?.as_slice(),
-            want,
-            "{key:?}"
-        );
+        assert!(rt; leaves(alloc, omap_remove(alloc, key), want), "{key:?}");
     }
-    assert_eq!(rt;
-        after(alloc, rm_attr(alloc, b"x"))?.as_slice(),
-        b"abcdef|y2|h|p1q2r3 - -".as_slice()
-    );
-    Ok(())
 }
 
 #[test]
-fn operations_on_two_objects_mean_their_rows(rt: HostRuntime) -> Result<(), Fail> {
+fn a_clone_keeps_its_source(rt: HostRuntime) {
     let alloc = rt.alloc();
     for (name, seed, want) in [
         (
@@ -496,70 +507,74 @@ fn operations_on_two_objects_mean_their_rows(rt: HostRuntime) -> Result<(), Fail
         (b"m", 0, b"abcdef|x1y2|h|p1q2r3 ||| -"),
         (b"a", 9, b"abcdef|x1y2|h|p1q2r3 - -"),
     ] {
-        assert_eq!(rt;
-            after(alloc, clone_to(alloc, name, seed, b"b"))?.as_slice(),
-            want,
-            "clone to {seed}"
+        assert!(rt;
+            leaves(alloc, clone_to(alloc, name, seed, b"b"), want),
+            "to {seed}"
         );
     }
+}
+
+#[test]
+fn a_move_takes_its_source_away(rt: HostRuntime) {
+    let alloc = rt.alloc();
     for (name, seed, want) in [
         (b"a".as_slice(), 1, b"- - abcdef|x1y2|h|p1q2r3".as_slice()),
         (b"a", 0, b"- abcdef|x1y2|h|p1q2r3 -"),
         (b"m", 0, b"abcdef|x1y2|h|p1q2r3 ||| -"),
         (b"a", 9, b"abcdef|x1y2|h|p1q2r3 - -"),
     ] {
-        assert_eq!(rt;
-            after(alloc, move_to(alloc, name, seed, b"b"))?.as_slice(),
-            want,
-            "move to {seed}"
+        assert!(rt;
+            leaves(alloc, move_to(alloc, name, seed, b"b"), want),
+            "to {seed}"
         );
     }
+}
+
+#[test]
+fn a_range_is_copied_as_far_as_it_goes(rt: HostRuntime) {
+    let alloc = rt.alloc();
     for (from, len, to, want) in [
         (1, 2, 1, b"abcdef|x1y2|h|p1q2r3 - \0bc|||".as_slice()),
         (4, 9, 0, b"abcdef|x1y2|h|p1q2r3 - ef|||"),
         (9, 2, 5, b"abcdef|x1y2|h|p1q2r3 - |||"),
     ] {
-        assert_eq!(rt;
-            after(alloc, clone_range(alloc, from, len, to))?.as_slice(),
-            want,
+        assert!(rt;
+            leaves(alloc, clone_range(alloc, from, len, to), want),
             "{len} from {from}"
         );
     }
-    Ok(())
+}
+
+fn remove(alloc: Global) -> Result<Op, NameFault> {
+    Ok(Op::Remove {
+        c: group(0),
+        o: named(alloc, b"a")?,
+    })
+}
+
+fn rm_attrs(alloc: Global) -> Result<Op, NameFault> {
+    Ok(Op::RmAttrs {
+        c: group(0),
+        o: named(alloc, b"a")?,
+    })
+}
+
+fn omap_clear(alloc: Global) -> Result<Op, NameFault> {
+    Ok(Op::OmapClear {
+        c: group(0),
+        o: named(alloc, b"a")?,
+    })
 }
 
 #[test]
-fn operations_that_take_away_mean_their_rows(rt: HostRuntime) -> Result<(), Fail> {
+fn operations_that_take_away_mean_their_rows(rt: HostRuntime) {
     let alloc = rt.alloc();
-    let c = group(0);
-    let o = named(alloc, b"a")?;
-    assert_eq!(rt;
-        after(alloc, Ok(Op::Remove { c, o }))?.as_slice(),
-        b"- - -".as_slice()
-    );
-    let o = named(alloc, b"a")?;
-    assert_eq!(rt;
-        after(alloc, Ok(Op::RmAttrs { c, o }))?.as_slice(),
-        b"abcdef||h|p1q2r3 - -".as_slice()
-    );
-    let o = named(alloc, b"a")?;
-    assert_eq!(rt;
-        after(alloc, Ok(Op::OmapClear { c, o }))?.as_slice(),
-        b"abcdef|x1y2|| - -".as_slice()
-    );
-    assert_eq!(rt;
-        after(alloc, Ok(Op::RmColl { c }))?.as_slice(),
-        b"- - -".as_slice()
-    );
-    assert_eq!(rt;
-        after(alloc, touch(alloc, 0))?.as_slice(),
-        b"abcdef|x1y2|h|p1q2r3 - -".as_slice()
-    );
-    assert_eq!(rt;
-        after(alloc, touch(alloc, 7))?.as_slice(),
-        b"abcdef|x1y2|h|p1q2r3 - -".as_slice()
-    );
-    Ok(())
+    assert!(rt; leaves(alloc, remove(alloc), b"- - -"));
+    assert!(rt; leaves(alloc, rm_attrs(alloc), b"abcdef||h|p1q2r3 - -"));
+    assert!(rt; leaves(alloc, omap_clear(alloc), b"abcdef|x1y2|| - -"));
+    assert!(rt; leaves(alloc, Ok(Op::RmColl { c: group(0) }), b"- - -"));
+    assert!(rt; leaves(alloc, touch(alloc, 0), b"abcdef|x1y2|h|p1q2r3 - -"));
+    assert!(rt; leaves(alloc, touch(alloc, 7), b"abcdef|x1y2|h|p1q2r3 - -"));
 }
 
 #[test]

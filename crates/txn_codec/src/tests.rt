@@ -1,3 +1,5 @@
+ghost use Rattle.std.specs.Prelude.{◌≡◌, ◌∷◌, [], IfOk};
+
 use super::*;
 use fs_model::{Blob, BlobList, Op, OpList, Pair, PairList, Txn};
 use fs_names::{Coll, Name, NameFault, Oid, Snap};
@@ -25,15 +27,21 @@ fn fault(alloc: Global, bytes: &[u8]) -> Option<CodecFault> {
     decode_txn(alloc, bytes).err()
 }
 
+fn txn_of(alloc: Global, op: Op) -> Result<Txn, AllocError>
+    ensures { IfOk result (λ txn. txn.ops ≡ op ∷ []) }
+{
+    Ok(Txn {
+        ops: OpList::from_vec(vec![in alloc; op]?),
+    })
+}
+
 // The payload of one operation.
 #[tactic(auto, using(crate::proofs::Shorts::short_op))]
-fn spelled(alloc: Global, op: Op) -> Result<Blob, Fail> {
+fn spelled(alloc: Global, op: Op) -> Result<Blob, NameFault> {
     if op.is_unfit() {
-        return Err("unfit")?;
+        return Err(NameFault::Memory);
     }
-    let txn = Txn {
-        ops: OpList::from_vec(vec![in alloc; op]?),
-    };
+    let txn = txn_of(alloc, op)?;
     Ok(encode_txn(alloc, &txn)?)
 }
 
@@ -176,12 +184,19 @@ fn plain(alloc: Global, name: &[u8]) -> Result<Oid, NameFault> {
 }
 
 // Whether an operation on `a` has this payload, which is read.
-fn is_spelled(
+fn is_spelled(alloc: Global, op: Result<Op, NameFault>, tag: u8, fields: &[u8]) -> bool {
+    match has_payload(alloc, op, tag, fields) {
+        Ok(is) => is,
+        Err(_) => false,
+    }
+}
+
+fn has_payload(
     alloc: Global,
     op: Result<Op, NameFault>,
     tag: u8,
     fields: &[u8],
-) -> Result<bool, Fail> {
+) -> Result<bool, NameFault> {
     let mut want = Vec::new(alloc);
     want.extend_from_slice(&[0, 0, 0, 1, tag])?;
     want.extend_from_slice(&A)?;
@@ -255,91 +270,96 @@ const CLONED_RANGE: [u8; 38] = [
     0, 0, 0, 0, 0, 0, 3,
 ];
 
+fn headed(alloc: Global) -> Result<Op, NameFault> {
+    let header = Blob::new(alloc, b"h")?;
+    omap_set(alloc, Some(header))
+}
+
 #[test]
-fn pairs_and_keys_stand_behind_their_number(rt: HostRuntime) -> Result<(), Fail> {
+fn pairs_and_keys_stand_behind_their_number(rt: HostRuntime) {
     let alloc = rt.alloc();
     let pairs = [0, 0, 0, 1, 0, 0, 0, 1, 107, 0, 0, 0, 2, 118, 119];
-    let headed = [
+    let key = [0, 0, 0, 1, 0, 0, 0, 1, 107];
+    assert!(rt; is_spelled(alloc, set_attrs(alloc), 6, &pairs));
+    assert!(rt; is_spelled(alloc, omap_remove(alloc), 16, &key));
+    assert!(rt; is_spelled(alloc, omap_range(alloc), 17, &[0, 0, 0, 1, 107, 0, 0, 0, 0]));
+}
+
+#[test]
+fn an_omap_header_stands_before_the_pairs(rt: HostRuntime) {
+    let alloc = rt.alloc();
+    let with = [
         1, 0, 0, 0, 1, 104, 0, 0, 0, 1, 0, 0, 0, 1, 107, 0, 0, 0, 2, 118, 119,
     ];
-    let unheaded = [0, 0, 0, 0, 1, 0, 0, 0, 1, 107, 0, 0, 0, 2, 118, 119];
-    let header = Blob::new(alloc, b"h")?;
-    assert_eq!(rt; is_spelled(alloc, set_attrs(alloc), 6, &pairs)?, true);
-    assert_eq!(rt;
-        is_spelled(alloc, omap_set(alloc, Some(header)), 15, &headed)?,
-        true
-    );
-    assert_eq!(rt;
-        is_spelled(alloc, omap_set(alloc, None), 15, &unheaded)?,
-        true
-    );
-    assert_eq!(rt;
-        is_spelled(
-            alloc,
-            omap_remove(alloc),
-            16,
-            &[0, 0, 0, 1, 0, 0, 0, 1, 107]
-        )?,
-        true
-    );
-    assert_eq!(rt;
-        is_spelled(alloc, omap_range(alloc), 17, &[0, 0, 0, 1, 107, 0, 0, 0, 0])?,
-        true
-    );
-    assert_eq!(rt;
-        is_spelled(alloc, clone_range(alloc), 10, &CLONED_RANGE)?,
-        true
-    );
-    Ok(())
+    let without = [0, 0, 0, 0, 1, 0, 0, 0, 1, 107, 0, 0, 0, 2, 118, 119];
+    assert!(rt; is_spelled(alloc, headed(alloc), 15, &with));
+    assert!(rt; is_spelled(alloc, omap_set(alloc, None), 15, &without));
+}
+
+// An operation on `a` with few fields.
+fn short_op(alloc: Global, tag: u8) -> Result<Op, NameFault> {
+    let c = Coll::Meta;
+    let o = plain(alloc, b"a")?;
+    Ok(match tag {
+        1 => Op::Touch { c, o },
+        3 => Op::Zero {
+            c,
+            o,
+            at: 7,
+            len: 7,
+        },
+        4 => Op::Truncate { c, o, len: 7 },
+        5 => Op::Remove { c, o },
+        8 => Op::RmAttrs { c, o },
+        _ => Op::OmapClear { c, o },
+    })
+}
+
+fn rm_attr(alloc: Global) -> Result<Op, NameFault> {
+    Ok(Op::RmAttr {
+        c: Coll::Meta,
+        o: plain(alloc, b"a")?,
+        name: Blob::new(alloc, b"k")?,
+    })
 }
 
 #[test]
-fn each_tag_has_its_operation(rt: HostRuntime) -> Result<(), Fail> {
+fn each_tag_has_its_operation(rt: HostRuntime) {
     let alloc = rt.alloc();
+    let sevens = [0, 0, 0, 0, 0, 0, 0, 7, 0, 0, 0, 0, 0, 0, 0, 7];
+    for (tag, fields) in [
+        (1, [].as_slice()),
+        (3, &sevens),
+        (4, &sevens[..8]),
+        (5, &[]),
+        (8, &[]),
+        (14, &[]),
+    ] {
+        assert!(rt;
+            is_spelled(alloc, short_op(alloc, tag), tag, fields),
+            "tag {tag}"
+        );
+    }
+    assert!(rt; is_spelled(alloc, rm_attr(alloc), 7, &[0, 0, 0, 1, 107]));
+}
+
+fn from_a_to_b(alloc: Global, moved: bool) -> Result<Op, NameFault> {
     let c = Coll::Meta;
-    let seven = [0, 0, 0, 0, 0, 0, 0, 7];
     let o = plain(alloc, b"a")?;
-    assert_eq!(rt; is_spelled(alloc, Ok(Op::Touch { c, o }), 1, &[])?, true);
-    let o = plain(alloc, b"a")?;
-    assert_eq!(rt;
-        is_spelled(alloc, Ok(Op::Truncate { c, o, len: 7 }), 4, &seven)?,
-        true
-    );
-    let o = plain(alloc, b"a")?;
-    assert_eq!(rt; is_spelled(alloc, Ok(Op::Remove { c, o }), 5, &[])?, true);
-    let o = plain(alloc, b"a")?;
-    let name = Blob::new(alloc, b"k")?;
-    assert_eq!(rt;
-        is_spelled(alloc, Ok(Op::RmAttr { c, o, name }), 7, &[0, 0, 0, 1, 107])?,
-        true
-    );
-    let o = plain(alloc, b"a")?;
-    assert_eq!(rt; is_spelled(alloc, Ok(Op::RmAttrs { c, o }), 8, &[])?, true);
-    let o = plain(alloc, b"a")?;
-    assert_eq!(rt;
-        is_spelled(alloc, Ok(Op::OmapClear { c, o }), 14, &[])?,
-        true
-    );
-    Ok(())
+    let o2 = plain(alloc, b"b")?;
+    Ok(if moved {
+        Op::MoveRename { c, o, c2: c, o2 }
+    } else {
+        Op::Clone { c, o, c2: c, o2 }
+    })
 }
 
 #[test]
-fn an_operation_on_two_objects_names_both(rt: HostRuntime) -> Result<(), Fail> {
+fn an_operation_on_two_objects_names_both(rt: HostRuntime) {
     let alloc = rt.alloc();
-    let c = Coll::Meta;
-    let o = plain(alloc, b"a")?;
-    let o2 = plain(alloc, b"b")?;
-    assert_eq!(rt;
-        is_spelled(alloc, Ok(Op::Clone { c, o, c2: c, o2 }), 9, &B)?,
-        true
-    );
-    let o = plain(alloc, b"a")?;
-    let o2 = plain(alloc, b"b")?;
-    assert_eq!(rt;
-        is_spelled(alloc, Ok(Op::MoveRename { c, o, c2: c, o2 }), 11, &B)?,
-        true
-    );
-    Ok(())
+    assert!(rt; is_spelled(alloc, from_a_to_b(alloc, false), 9, &B));
+    assert!(rt; is_spelled(alloc, from_a_to_b(alloc, true), 11, &B));
+    assert!(rt; is_spelled(alloc, clone_range(alloc), 10, &CLONED_RANGE));
 }
 
 // Two operations: an omap set with a header and one pair, and a range of copied bytes.
