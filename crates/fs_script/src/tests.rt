@@ -15,152 +15,276 @@ fn refuses(alloc: Global, script: &str, number: u64, reason: ScriptWhy) -> bool 
     }
 }
 
-const REFUSED: [(&str, u64, ScriptWhy); 31] = [
-    ("wirte x", 1, ScriptWhy::UnknownWord),
-    ("\n# a note\n drain", 3, ScriptWhy::UnknownWord),
-    ("drain\nwirte x", 2, ScriptWhy::UnknownWord),
-    ("turn sync", 1, ScriptWhy::UnknownWord),
-    ("begin\nwirte x\nend", 2, ScriptWhy::UnknownWord),
-    ("begin\nbegin\nend", 2, ScriptWhy::NotInTransaction),
-    ("begin\ndrain now\nend", 2, ScriptWhy::NotInTransaction),
-    (
-        "begin\nmkcoll meta\nlist meta - x",
-        3,
-        ScriptWhy::NotInTransaction,
-    ),
-    ("end", 1, ScriptWhy::EndWithoutBegin),
-    ("begin\nend\nend now", 3, ScriptWhy::EndWithoutBegin),
-    ("begin now\nend", 1, ScriptWhy::WrongCount),
-    ("begin\nend now", 2, ScriptWhy::WrongCount),
-    ("mkcoll  1.0_head", 1, ScriptWhy::WrongCount),
-    ("mkcoll 1.0_head ", 1, ScriptWhy::WrongCount),
-    ("list 1.0_heat - 10", 1, ScriptWhy::BadCollection),
-    ("mkcoll 01.0_head", 1, ScriptWhy::BadCollection),
-    ("touch 1.0_head", 1, ScriptWhy::BadObject),
-    ("stat 1.0_heat/a__head_00000001__1", 1, ScriptWhy::BadObject),
-    ("attrs 1.0_head/a__head_0000001__1", 1, ScriptWhy::BadObject),
-    (
-        "omap 1.0_head/a__head_00000001__1/",
-        1,
-        ScriptWhy::BadObject,
-    ),
-    (
-        "clone 1.0_head/a__head_00000001__1 a",
-        1,
-        ScriptWhy::BadObject,
-    ),
-    (
-        "list 1.0_head 1.0_head/a__head_00000001__1 x",
-        1,
-        ScriptWhy::BadObject,
-    ),
-    (
-        "write 1.0_head/a__head_00000001__1 00 x",
-        1,
-        ScriptWhy::BadNumber,
-    ),
-    (
-        "read 1.0_head/a__head_00000001__1 0 18446744073709551616",
-        1,
-        ScriptWhy::BadNumber,
-    ),
-    ("list 1.0_head - 4294967296", 1, ScriptWhy::BadNumber),
-    (
-        "write 1.0_head/a__head_00000001__1 -1 68",
-        1,
-        ScriptWhy::BadNumber,
-    ),
-    (
-        "rmattr 1.0_head/a__head_00000001__1 68",
-        1,
-        ScriptWhy::BadBytes,
-    ),
-    (
-        "setattr 1.0_head/a__head_00000001__1 x68 x6",
-        1,
-        ScriptWhy::BadBytes,
-    ),
-    (
-        "omapset 1.0_head/a__head_00000001__1 xAB x68 x",
-        1,
-        ScriptWhy::BadBytes,
-    ),
-    ("begin\nmkcoll meta", 1, ScriptWhy::NoEnd),
-    ("drain\nbegin\nend\nbegin", 4, ScriptWhy::NoEnd),
-];
+/// Whether each of these scripts is refused at this line for this reason.
+fn all_refused(alloc: Global, scripts: &[&str], line: u64, reason: ScriptWhy) -> bool {
+    for script in scripts {
+        if !refuses(alloc, script, line, reason) {
+            return false;
+        }
+    }
+    true
+}
 
 #[test]
-fn each_refused_line_has_its_number_and_its_reason(rt: HostRuntime) -> Result<(), Fail> {
-    for (script, line, why) in REFUSED {
-        assert!(rt; refuses(rt.alloc(), script, line, why), "{script}");
-    }
+fn a_line_without_a_known_word_is_refused(rt: HostRuntime) -> Result<(), Fail> {
+    let why = ScriptWhy::UnknownWord;
+    assert!(rt; all_refused(rt.alloc(), &["wirte x", "turn sync"], 1, why));
+    assert!(rt; all_refused(rt.alloc(), &["\n# a note\n drain"], 3, why));
+    assert!(rt;
+        all_refused(
+            rt.alloc(),
+            &["drain\nwirte x", "begin\nwirte x\nend"],
+            2,
+            why
+        )
+    );
+    Ok(())
+}
+
+#[test]
+fn only_operations_stand_in_a_transaction(rt: HostRuntime) -> Result<(), Fail> {
+    let why = ScriptWhy::NotInTransaction;
+    assert!(rt;
+        all_refused(
+            rt.alloc(),
+            &["begin\nbegin\nend", "begin\ndrain now\nend"],
+            2,
+            why
+        )
+    );
+    assert!(rt; all_refused(rt.alloc(), &["begin\nmkcoll meta\nlist meta - x"], 3, why));
+    Ok(())
+}
+
+#[test]
+fn an_end_without_its_begin_is_refused(rt: HostRuntime) -> Result<(), Fail> {
+    let why = ScriptWhy::EndWithoutBegin;
+    assert!(rt; all_refused(rt.alloc(), &["end"], 1, why));
+    assert!(rt; all_refused(rt.alloc(), &["begin\nend\nend now"], 3, why));
+    Ok(())
+}
+
+#[test]
+fn words_beyond_a_statement_are_refused(rt: HostRuntime) -> Result<(), Fail> {
+    let why = ScriptWhy::WrongCount;
+    assert!(rt;
+        all_refused(
+            rt.alloc(),
+            &["begin now\nend", "mkcoll  1.0_head", "mkcoll 1.0_head "],
+            1,
+            why
+        )
+    );
+    assert!(rt; all_refused(rt.alloc(), &["begin\nend now"], 2, why));
+    Ok(())
+}
+
+#[test]
+fn a_misspelled_collection_is_refused(rt: HostRuntime) -> Result<(), Fail> {
+    let why = ScriptWhy::BadCollection;
+    assert!(rt;
+        all_refused(
+            rt.alloc(),
+            &["list 1.0_heat - 10", "mkcoll 01.0_head"],
+            1,
+            why
+        )
+    );
+    Ok(())
+}
+
+#[test]
+fn a_misspelled_object_is_refused(rt: HostRuntime) -> Result<(), Fail> {
+    let why = ScriptWhy::BadObject;
+    assert!(rt;
+        all_refused(
+            rt.alloc(),
+            &[
+                "touch 1.0_head",
+                "stat 1.0_heat/a__head_00000001__1",
+                "attrs 1.0_head/a__head_0000001__1",
+                "omap 1.0_head/a__head_00000001__1/",
+                "clone 1.0_head/a__head_00000001__1 a",
+                "list 1.0_head 1.0_head/a__head_00000001__1 x"
+            ],
+            1,
+            why
+        )
+    );
+    Ok(())
+}
+
+#[test]
+fn a_misspelled_number_is_refused(rt: HostRuntime) -> Result<(), Fail> {
+    let why = ScriptWhy::BadNumber;
+    assert!(rt;
+        all_refused(
+            rt.alloc(),
+            &[
+                "write 1.0_head/a__head_00000001__1 00 x",
+                "read 1.0_head/a__head_00000001__1 0 18446744073709551616",
+                "list 1.0_head - 4294967296",
+                "write 1.0_head/a__head_00000001__1 -1 68"
+            ],
+            1,
+            why
+        )
+    );
+    Ok(())
+}
+
+#[test]
+fn misspelled_bytes_are_refused(rt: HostRuntime) -> Result<(), Fail> {
+    let why = ScriptWhy::BadBytes;
+    assert!(rt;
+        all_refused(
+            rt.alloc(),
+            &[
+                "rmattr 1.0_head/a__head_00000001__1 68",
+                "setattr 1.0_head/a__head_00000001__1 x68 x6",
+                "omapset 1.0_head/a__head_00000001__1 xAB x68 x"
+            ],
+            1,
+            why
+        )
+    );
+    Ok(())
+}
+
+#[test]
+fn a_begin_without_its_end_is_refused(rt: HostRuntime) -> Result<(), Fail> {
+    let why = ScriptWhy::NoEnd;
+    assert!(rt; all_refused(rt.alloc(), &["begin\nmkcoll meta"], 1, why));
+    assert!(rt; all_refused(rt.alloc(), &["drain\nbegin\nend\nbegin"], 4, why));
     Ok(())
 }
 
 // Each statement with a word too few, and with a word too many.
-const MISCOUNTED: [&str; 52] = [
-    "touch",
-    "touch a b",
-    "write a b",
-    "write a b c d",
-    "zero a b",
-    "zero a b c d",
-    "truncate a",
-    "truncate a b c",
-    "remove",
-    "remove a b",
-    "rmattr a",
-    "rmattr a b c",
-    "rmattrs",
-    "rmattrs a b",
-    "clone a",
-    "clone a b c",
-    "clonerange a b c d",
-    "clonerange a b c d e f",
-    "move a",
-    "move a b c",
-    "mkcoll",
-    "mkcoll a b",
-    "rmcoll",
-    "rmcoll a b",
-    "omapclear",
-    "omapclear a b",
-    "omaprange a b",
-    "omaprange a b c d",
-    "drain a",
-    "read a b",
-    "read a b c d",
-    "stat",
-    "stat a b",
-    "attrs",
-    "attrs a b",
-    "omap",
-    "omap a b",
-    "list a b",
-    "list a b c d",
-    "colls a",
-    "acked a",
-    "begin a",
-    "setattr",
-    "setattr a",
-    "setattr a b",
-    "setattr a b c d",
-    "omapset",
-    "omapset a",
-    "omapset a b c",
-    "omapset a b c d e",
-    "omaprm",
-    "omaprm a",
-];
+fn are_miscounted(alloc: Global, scripts: &[&str]) -> bool {
+    all_refused(alloc, scripts, 1, ScriptWhy::WrongCount)
+}
 
 #[test]
-fn too_few_and_too_many_words_are_refused_before_any_field(rt: HostRuntime) -> Result<(), Fail> {
-    for script in MISCOUNTED {
-        assert!(rt;
-            refuses(rt.alloc(), script, 1, ScriptWhy::WrongCount),
-            "{script}"
-        );
-    }
+fn too_few_and_too_many_words_of_changes_of_bytes(rt: HostRuntime) -> Result<(), Fail> {
+    assert!(rt;
+        are_miscounted(
+            rt.alloc(),
+            &[
+                "touch",
+                "touch a b",
+                "write a b",
+                "write a b c d",
+                "zero a b",
+                "zero a b c d",
+                "truncate a",
+                "truncate a b c",
+                "remove"
+            ]
+        )
+    );
+    Ok(())
+}
+
+#[test]
+fn too_few_and_too_many_words_of_attributes_and_copies(rt: HostRuntime) -> Result<(), Fail> {
+    assert!(rt;
+        are_miscounted(
+            rt.alloc(),
+            &[
+                "remove a b",
+                "rmattr a",
+                "rmattr a b c",
+                "rmattrs",
+                "rmattrs a b",
+                "clone a",
+                "clone a b c",
+                "clonerange a b c d",
+                "clonerange a b c d e f"
+            ]
+        )
+    );
+    Ok(())
+}
+
+#[test]
+fn too_few_and_too_many_words_of_moves_and_collections(rt: HostRuntime) -> Result<(), Fail> {
+    assert!(rt;
+        are_miscounted(
+            rt.alloc(),
+            &[
+                "move a",
+                "move a b c",
+                "mkcoll",
+                "mkcoll a b",
+                "rmcoll",
+                "rmcoll a b",
+                "omapclear",
+                "omapclear a b",
+                "omaprange a b"
+            ]
+        )
+    );
+    Ok(())
+}
+
+#[test]
+fn too_few_and_too_many_words_of_readings(rt: HostRuntime) -> Result<(), Fail> {
+    assert!(rt;
+        are_miscounted(
+            rt.alloc(),
+            &[
+                "omaprange a b c d",
+                "drain a",
+                "read a b",
+                "read a b c d",
+                "stat",
+                "stat a b",
+                "attrs",
+                "attrs a b",
+                "omap"
+            ]
+        )
+    );
+    Ok(())
+}
+
+#[test]
+fn too_few_and_too_many_words_of_listings_and_pairs(rt: HostRuntime) -> Result<(), Fail> {
+    assert!(rt;
+        are_miscounted(
+            rt.alloc(),
+            &[
+                "omap a b",
+                "list a b",
+                "list a b c d",
+                "colls a",
+                "acked a",
+                "begin a",
+                "setattr",
+                "setattr a",
+                "setattr a b"
+            ]
+        )
+    );
+    Ok(())
+}
+
+#[test]
+fn too_few_and_too_many_words_of_omaps(rt: HostRuntime) -> Result<(), Fail> {
+    assert!(rt;
+        are_miscounted(
+            rt.alloc(),
+            &[
+                "setattr a b c d",
+                "omapset",
+                "omapset a",
+                "omapset a b c",
+                "omapset a b c d e",
+                "omaprm",
+                "omaprm a"
+            ]
+        )
+    );
     Ok(())
 }
 
