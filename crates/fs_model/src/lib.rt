@@ -33,8 +33,3 @@ pub use page::Page;
 pub use pair::{Pair, PairList};
 pub use pair_map::PairMap;
 pub use plain::PlainObjects;
-
-#[cfg(test)]
-mod listing_tests;
-#[cfg(test)]
-mod tests;

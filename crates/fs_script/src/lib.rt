@@ -14,8 +14,6 @@ mod parse;
 mod print;
 mod script;
 mod statement;
-#[cfg(test)]
-mod tests;
 mod words;
 
 pub use answer::Answer;

@@ -7,6 +7,3 @@ mod store;
 
 pub use fault::{DrainFault, QueueFault};
 pub use store::JournalStore;
-
-#[cfg(test)]
-mod tests;
