@@ -2,15 +2,11 @@
 use Rattle.std.proofs.Common.{◌≡◌, ◌⊎◌, inl, inr, ⊎_elim, ℕ, ◌≤◌, List, [], ◌++◌, take, refl, sym, ap, subst, arith, append_assoc}
 use Rattle.std.specs.Prelude.{Result, Ok, Err, OnOk, OnErr}
 use Rattle.std.proofs.lemmas.List.{append-nil}
-use Rattle.fault_count.specs.Counted.{Counted}
-use Rattle.io_edge.specs.Flow.{Outflow}
+use Rattle.io_edge.specs.Flow.{Outflow, SinkFails}
 use Rattle.io_edge.specs.Pieces.{Writes, WritesFront}
 use Rattle.io_edge.specs.declared.IoFailed.{IoFailed}
-use Rattle.io_edge.proofs.Writing.{writes_none, writes_then}
+use Rattle.io_edge.proofs.Writing.{counted_since, writes_none, writes_then}
 use Rattle.filestore_cli.specs.Seen.{Seen, moves, Says, SaysPart, SinkFailed, EndsWith}
-
-pub counted_since : (a b c : ℕ) → a ≤ b → Counted b c → Counted a c
-counted_since a b c le counted = omega (arith, le, counted)
 
 pub says_none : (t : Type 0) (a : Outflow) → Says (moves t a a) []
 says_none t a = λ told. writes_none a
@@ -27,7 +23,7 @@ part_written t a b text line part e =
     subst (λ (l : List ℕ). SaysPart (moves t a b) [] l) e (λ told. let p = part told in (p.count, p.front))
 
 pub ends_written : (t : Type 0) (a b : Outflow) (line : List ℕ) (r : Result (Unit {0}) IoFailed) → (t → OnOk r (Writes a b line)) → (t → OnErr r (WritesFront a b line))
-    → OnErr r (Counted a.faults b.faults) → EndsWith (moves t a b) [] line
+    → OnErr r (SinkFails a b) → EndsWith (moves t a b) [] line
 ends_written t a b line (Ok x) whole part cause = inl whole
 ends_written t a b line (Err e) whole part cause = inr (cause, λ told. let p = part told in (p.count, p.front))
 

@@ -2,10 +2,9 @@
 use Rattle.std.proofs.Common.{◌≡◌, ◌⊎◌, inl, inr, ℕ, ◌≤◌, ltb, ◌<◌, cond, List, [], ◌++◌, length, refl, sym, ap, subst, arith}
 use Rattle.std.specs.Prelude.{Result, Ok, Err, OnOk, IfOk, IfErr}
 use Rattle.std.proofs.lemmas.Bool.Decides.{nat_tests}
-use Rattle.fault_count.specs.Counted.{Counted}
 use Rattle.dev_api.specs.Disk.{Disk}
 use Rattle.dev_api.specs.DeviceState.{DeviceState}
-use Rattle.io_edge.specs.Flow.{Inflow, Outflow}
+use Rattle.io_edge.specs.Flow.{Inflow, Outflow, SourceFails, SinkFails}
 use Rattle.io_edge.specs.Pieces.{IsPast}
 use Rattle.fs_script.specs.declared.statement.Line.{Line}
 use Rattle.fs_script.specs.declared.fault.ScriptWhy.TheVariants.{TooLong}
@@ -17,10 +16,16 @@ use Rattle.filestore_cli.specs.declared.stop.Refusal.{Refusal}
 use Rattle.filestore_cli.specs.declared.stop.Refusal.TheVariants.{Script, Store, Size}
 use Rattle.filestore_cli.specs.declared.stop.Stop.{Stop}
 use Rattle.filestore_cli.specs.declared.stop.Stop.TheVariants.{Usage, Device, Source, Sink, Memory, Refused}
-use Rattle.filestore_cli.specs.Seen.{Seen, moves, Says, SinkFailed, EndsWith}
+use Rattle.filestore_cli.specs.Seen.{Seen, Scene, moves, Says, SinkFailed, EndsWith}
 use Rattle.filestore_cli.specs.Stop.{status_of, line_of, usage_line, memory_line, TakesMemory, Ended}
-use Rattle.filestore_cli.specs.Run.{Survives, Starts, CanStart, CannotStart, Unstarted, Cut, Stopped, Halted, Halts, Unread, Stops, Unheard, StopsOn, AnswersAll, Answers, IsCaused, IsCausedBy, IsStartCaused, RunStops}
-use Rattle.filestore_cli.proofs.Saying.{counted_since, says_none, ends_then, part_still}
+use Rattle.filestore_cli.specs.Run.{Survives, Starts, CanStart, CannotStart, Unstarted, Cut, Stopped, Halted, Halts, Unread, Stops, Unheard, StopsOn, StopsWith, AnswersAll, AnswersScript, Answers, IsCaused, IsCausedBy, IsStartCaused, RunStops}
+use Rattle.io_edge.proofs.Writing.{counted_since}
+use Rattle.journal_store.specs.Underneath.{DeviceFails}
+use Rattle.filestore_cli.proofs.Saying.{ends_then, part_still}
+
+-- all that a run works on
+abbrev pub on : Seen DeviceState → Seen Inflow → Seen Outflow → Scene
+on d i k = record { device = d; source = i; sink = k }
 
 -- ---- causes
 
@@ -47,7 +52,7 @@ pub caused_behind : {A : Type 0} (t u : Type 0) (d e f : DeviceState) (a c : Out
 caused_behind t u d e f a c (Ok x) le h = tt
 caused_behind t u d e f a c (Err stop) le h = caused_since t u d e f a a c stop le (omega arith) h
 
-with_source : (d : Seen DeviceState) (i : Seen Inflow) (k : Seen Outflow) (stop : Stop) → IsCausedBy d k stop → IsCaused d i k stop
+with_source : (d : Seen DeviceState) (i : Seen Inflow) (k : Seen Outflow) (stop : Stop) → IsCausedBy d k stop → IsCaused (on d i k) stop
 with_source d i k Usage h = h
 with_source d i k Device h = h
 with_source d i k Source h = absurd h
@@ -55,12 +60,12 @@ with_source d i k Sink h = h
 with_source d i k Memory h = tt
 with_source d i k (Refused refusal) h = tt
 
-pub read_caused : {A : Type 0} (d : Seen DeviceState) (i : Seen Inflow) (k : Seen Outflow) (r : Result A Stop) → IfErr r (IsCausedBy d k) → IfErr r (IsCaused d i k)
+pub read_caused : {A : Type 0} (d : Seen DeviceState) (i : Seen Inflow) (k : Seen Outflow) (r : Result A Stop) → IfErr r (IsCausedBy d k) → IfErr r (IsCaused (on d i k))
 read_caused d i k (Ok x) h = tt
 read_caused d i k (Err stop) h = with_source d i k stop h
 
 -- with the last line
-written_caused : (d : Seen DeviceState) (i : Seen Inflow) (t u : Type 0) (a b c : Outflow) (stop : Stop) → b.faults ≤ c.faults → IsCaused d i (moves t a b) stop → IsCaused d i (moves u a c) stop
+written_caused : (d : Seen DeviceState) (i : Seen Inflow) (t u : Type 0) (a b c : Outflow) (stop : Stop) → b.faults ≤ c.faults → IsCaused (on d i (moves t a b)) stop → IsCaused (on d i (moves u a c)) stop
 written_caused d i t u a b c Usage le h = h
 written_caused d i t u a b c Device le h = h
 written_caused d i t u a b c Source le h = h
@@ -72,7 +77,7 @@ written_caused d i t u a b c (Refused refusal) le h = tt
 
 module _ {A : Type 0} (command : Command) (d : Seen DeviceState) (script : List Line) (k : Seen Outflow) (s : Session) (starts : Starts command d.old s) where
   pub ran_all : (r : Result A Stop) → OnOk r (Says k (answers_text s script)) → OnOk r (Survives s script script d.new.disk)
-      → OnOk r ((bytes : List ℕ) → script_said bytes ≡ Ok script → AnswersAll command d bytes k)
+      → OnOk r (AnswersScript command d script k)
   ran_all (Ok x) says survives = λ bytes said. record { session = s; starts = starts; script = script; said = said; written = says; survives = survives }
   ran_all (Err stop) says survives = tt
 
@@ -81,7 +86,7 @@ module _ {A : Type 0} (command : Command) (d : Seen DeviceState) (script : List 
   ran_halts (Err stop) h = inr (s, starts, h)
 
 module _ {A : Type 0} (command : Command) (d : Seen DeviceState) (bytes : List ℕ) (script : List Line) (k : Seen Outflow) (said : script_said bytes ≡ Ok script) where
-  pub text_all : (r : Result A Stop) → OnOk r ((bytes : List ℕ) → script_said bytes ≡ Ok script → AnswersAll command d bytes k) → OnOk r (AnswersAll command d bytes k)
+  pub text_all : (r : Result A Stop) → OnOk r (AnswersScript command d script k) → OnOk r (AnswersAll command d bytes k)
   text_all (Ok x) h = h bytes said
   text_all (Err stop) h = tt
 
@@ -91,7 +96,7 @@ module _ {A : Type 0} (command : Command) (d : Seen DeviceState) (bytes : List �
 
 module _ {A : Type 0} (command : Command) (d : Seen DeviceState) (i : Seen Inflow) (text : List ℕ) (k : Seen Outflow)
     (whole : i.told → text ≡ i.old.left) (ended : i.told → i.new.left ≡ []) where
-  pub read_all_answers : (r : Result A Stop) → (d.told → OnOk r (AnswersAll command d text k)) → OnOk r (Answers command d i k)
+  pub read_all_answers : (r : Result A Stop) → (d.told → OnOk r (AnswersAll command d text k)) → OnOk r (Answers command (on d i k))
   read_all_answers (Ok x) h = λ told heard. (ended heard, subst (λ (b : List ℕ). AnswersAll command d b k) (whole heard) (h told))
   read_all_answers (Err stop) h = tt
 
@@ -159,13 +164,13 @@ module _ (W : List ℕ → Type 0) (k : Seen Outflow) (refusal : Refusal) where
 
 -- the whole run
 module _ (command : Command) (d : Seen DeviceState) (i : Seen Inflow) (t u : Type 0) (a b c : Outflow) (heard : u → t) (le : a.faults ≤ b.faults) (lf : b.faults ≤ c.faults) where
-  ran_plain : (stop : Stop) → StopsOn command d i (Says (moves t a b)) (moves t a b) stop → IsCaused d i (moves t a b) stop → EndsWith (moves u b c) [] (line_of stop)
-      → RunStops command d i (moves u a c) stop (line_of stop)
+  ran_plain : (stop : Stop) → StopsOn command d i (Says (moves t a b)) (moves t a b) stop → IsCaused (on d i (moves t a b)) stop → EndsWith (moves u b c) [] (line_of stop)
+      → RunStops command (on d i (moves u a c)) stop (line_of stop)
   ran_plain stop stops caused ends =
       record { stops = ends_on t u a b c heard le command d i stop ends stops; caused = written_caused d i t u a b c stop lf caused }
 
   ran_lacking : (stop : Stop) → StopsOn command d i (Says (moves t a b)) (moves t a b) stop → TakesMemory stop → EndsWith (moves u b c) [] memory_line
-      → RunStops command d i (moves u a c) Memory memory_line
+      → RunStops command (on d i (moves u a c)) Memory memory_line
   ran_lacking (Refused refusal) stops takes ends =
       record { stops = ends_on t u a b c heard le command d i Memory ends (lack_on (Says (moves t a b)) (moves t a b) refusal command d i stops); caused = tt }
   ran_lacking Usage stops takes ends = absurd takes
@@ -174,8 +179,8 @@ module _ (command : Command) (d : Seen DeviceState) (i : Seen Inflow) (t u : Typ
   ran_lacking Sink stops takes ends = absurd takes
   ran_lacking Memory stops takes ends = absurd takes
 
-  pub ran : (stop : Stop) (status : ℕ) → StopsOn command d i (Says (moves t a b)) (moves t a b) stop → IsCaused d i (moves t a b) stop → Ended stop (moves u b c) status
-      → (stop : Stop) × (status ≡ status_of stop) × RunStops command d i (moves u a c) stop (line_of stop)
+  pub ran : (stop : Stop) (status : ℕ) → StopsOn command d i (Says (moves t a b)) (moves t a b) stop → IsCaused (on d i (moves t a b)) stop → Ended stop (moves u b c) status
+      → StopsWith command (on d i (moves u a c)) status
   ran stop status stops caused (inl ended) = (stop, ended.0, ran_plain stop stops caused ended.1)
   ran stop status stops caused (inr ended) = (Memory, ended.0, ran_lacking stop stops ended.1 ended.2)
 
@@ -190,7 +195,7 @@ ended_as stop want k status line e is same ends =
     subst (λ (x : Stop). Ended x k status) (sym e) (inl (is, subst (λ (l : List ℕ). EndsWith k [] l) same ends))
 
 -- its status isn't that of words which are no command, nor that of a run that is done
-pub not_usage : (d : Seen DeviceState) (i : Seen Inflow) (k l : Seen Outflow) (stop : Stop) (status n : ℕ) → n ≤ 1 → IsCaused d i k stop → Ended stop l status → status ≡ n → ⊥
+pub not_usage : (d : Seen DeviceState) (i : Seen Inflow) (k l : Seen Outflow) (stop : Stop) (status n : ℕ) → n ≤ 1 → IsCaused (on d i k) stop → Ended stop l status → status ≡ n → ⊥
 not_usage d i k l stop status n le caused (inr ended) e = omega (arith, le, ended.0, e)
 not_usage d i k l Usage status n le caused (inl ended) e = caused
 not_usage d i k l Device status n le caused (inl ended) e = omega (arith, le, ended.0, e)
@@ -230,8 +235,8 @@ module _ (command : Command) (d : Seen DeviceState) (i : Seen Inflow) (k : Seen 
       no_stop (inl h) = is_read refusal h.0
       no_stop (inr h) = no_halt h.0 (h.2 told)
 
-  pub only_memory : (stop : Stop) (line : List ℕ) → RunStops command d i k stop line → ¬ Counted i.old.faults i.new.faults → ¬ Counted d.old.faults d.new.faults
-      → ¬ Counted k.old.faults k.new.faults → status_of stop ≡ 9
+  pub only_memory : (stop : Stop) (line : List ℕ) → RunStops command (on d i k) stop line → ¬ SourceFails i.old i.new → ¬ DeviceFails d.old d.new
+      → ¬ SinkFails k.old k.new → status_of stop ≡ 9
   only_memory Usage line h read device sink = absurd h.caused
   only_memory Device line h read device sink = absurd (device h.caused)
   only_memory Source line h read device sink = absurd (read h.caused)

@@ -6,7 +6,6 @@
 mod command;
 mod run;
 mod status;
-mod step;
 mod stop;
 #[cfg(test)]
 mod tests;

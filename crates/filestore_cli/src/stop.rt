@@ -1,11 +1,10 @@
 //! How a run ends before all is done.
 ghost use Rattle.std.specs.Prelude.{◌≡◌, ◌≤◌, [], IfOk, OnErr};
-ghost use Rattle.filestore_cli.specs.Seen.{seen, EndsWith};
+ghost use Rattle.filestore_cli.specs.Seen.{sink_seen, EndsWith};
 ghost use Rattle.filestore_cli.specs.Stop.{mount_line, refused_line, refused_status, make_stop, mount_stop, Ended};
 
 use crate::status::Status;
-use fs_model::Blob;
-use fs_script::{ScriptWhy, print_refusal};
+use fs_script::{Blob, ScriptWhy, print_refusal};
 use io_edge::{Sink, write_all};
 use std::alloc::{AllocError, Global};
 use txn_journal::{MakeFault, MountFault};
@@ -122,7 +121,7 @@ impl Refusal {
 // Writes the last line, whatever becomes of it, and ends with this status.
 fn close<K: Sink>(sink: &mut K, line: &[u8], status: Status) -> Status
     ensures same { result ≡ status }
-    ensures ends { EndsWith (seen K.tells K.out sink.old sink.new) [] line.now }
+    ensures ends { EndsWith (sink_seen K.Sink sink.old sink.new) [] line.now }
     ensures honest { K.tells sink.new → K.tells sink.old }
     ensures later { (K.out sink.old).faults ≤ (K.out sink.new).faults }
 {
@@ -132,7 +131,7 @@ fn close<K: Sink>(sink: &mut K, line: &[u8], status: Status) -> Status
 
 /// Writes the last line of a run that stops, whatever becomes of it.
 pub fn end<K: Sink>(alloc: Global, sink: &mut K, stop: Stop) -> Status
-    ensures ends { Ended stop (seen K.tells K.out sink.old sink.new) result.0 }
+    ensures ends { Ended stop (sink_seen K.Sink sink.old sink.new) result.0 }
     ensures honest { K.tells sink.new → K.tells sink.old }
     ensures later { (K.out sink.old).faults ≤ (K.out sink.new).faults }
 {
@@ -152,7 +151,7 @@ pub fn end<K: Sink>(alloc: Global, sink: &mut K, stop: Stop) -> Status
 
 // The same of a refusal.
 fn end_refused<K: Sink>(alloc: Global, sink: &mut K, refusal: Refusal) -> Status
-    ensures ends { Ended (Stop.Refused refusal) (seen K.tells K.out sink.old sink.new) result.0 }
+    ensures ends { Ended (Stop.Refused refusal) (sink_seen K.Sink sink.old sink.new) result.0 }
     ensures honest { K.tells sink.new → K.tells sink.old }
     ensures later { (K.out sink.old).faults ≤ (K.out sink.new).faults }
 {

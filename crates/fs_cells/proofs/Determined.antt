@@ -26,15 +26,15 @@ flag_in (flag b) = b
 flag_in (number n) = false
 flag_in (content v) = false
 
-number_is : (m n : ℕ) → number m ≡ number n → m ≡ n
+pub number_is : (m n : ℕ) → number m ≡ number n → m ≡ n
 unfolding number_in
 number_is m n e = ap number_in e
 
-content_is : (a b : Option (List ℕ)) → content a ≡ content b → a ≡ b
+pub content_is : (a b : Option (List ℕ)) → content a ≡ content b → a ≡ b
 unfolding content_in
 content_is a b e = ap content_in e
 
-flag_is : (a b : Bool) → flag a ≡ flag b → a ≡ b
+pub flag_is : (a b : Bool) → flag a ≡ flag b → a ≡ b
 unfolding flag_in
 flag_is a b e = ap flag_in e
 

@@ -1,4 +1,5 @@
 pub mod Determined
+pub mod Groups
 pub mod Looks
 pub mod Parts
 pub mod Reading

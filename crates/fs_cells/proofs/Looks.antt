@@ -20,7 +20,7 @@ look-remove O c q p = ap (λ m. on_shelf m p) (map.get-remove coll_cmp_total O c
     by true = refl
     by false = refl
 
-none_there : {A : Type 0} (m : Option A) → is_some m ≡ false → m ≡ None
+pub none_there : {A : Type 0} (m : Option A) → is_some m ≡ false → m ≡ None
 none_there None e = refl
 none_there (Some x) e = cc
 

@@ -138,7 +138,7 @@ truncate_row n s x (Attr k) = refl
 truncate_row n s x OmapHeader = refl
 truncate_row n s x (OmapKey k) = refl
 
-or_else_twice : {A : Type 0} (a : Option A) (t : Bool) (v : A) (c : Option A) → option_or a (cond t (Some v) c) ≡ option_or (option_or a (cond t (Some v) None)) c
+pub or_else_twice : {A : Type 0} (a : Option A) (t : Bool) (v : A) (c : Option A) → option_or a (cond t (Some v) c) ≡ option_or (option_or a (cond t (Some v) None)) c
 or_else_twice None true v c = refl
 or_else_twice None false v c = refl
 or_else_twice (Some x) t v c = refl
@@ -151,7 +151,7 @@ get-set_pairs m (p ∷ pairs) k =
     ∙ ap (option_or (value_in pairs k)) (map.get-insert nat_list_cmp_total m p.key p.value k)
     ∙ or_else_twice (value_in pairs k) (same_bytes k p.key) p.value (map.get m k)
 
-set_cell : (v was : Option (List ℕ)) (s : Cell → Value) → content (option_or v was) ≡ moved raise (effect (set_to v) s) (content was)
+pub set_cell : (v was : Option (List ℕ)) (s : Cell → Value) → content (option_or v was) ≡ moved raise (effect (set_to v) s) (content was)
 set_cell None was s = refl
 set_cell (Some v) was s = refl
 
@@ -159,7 +159,7 @@ set_header : (v : Option (List ℕ)) (was : List ℕ) (s : Cell → Value) → c
 set_header None was s = refl
 set_header (Some v) was s = refl
 
-gone_cell : (t : Bool) (was : Option (List ℕ)) (s : Cell → Value) → content (cond t None was) ≡ moved raise (effect (gone_if t) s) (content was)
+pub gone_cell : (t : Bool) (was : Option (List ℕ)) (s : Cell → Value) → content (cond t None was) ≡ moved raise (effect (gone_if t) s) (content was)
 gone_cell true was s = refl
 gone_cell false was s = refl
 

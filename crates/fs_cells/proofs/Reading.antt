@@ -22,7 +22,7 @@ use Rattle.fs_cells.specs.Actions.{in_coll, is_of, on_object, act_of}
 use Rattle.fs_cells.specs.Laws.{is_named, LeavesOthers, ReadsOwn, OmapApart}
 
 -- no part reads a cell
-abbrev Plain : (Part → CellAct) → Type 0
+abbrev pub Plain : (Part → CellAct) → Type 0
 Plain act = (p : Part) (y : Cell) → Source (act p) y → ⊥
 
 unless_chosen : (t : Bool) (a : CellAct) (y : Cell) → (Source a y → ⊥) → Source (cond t a leaves) y → ⊥
@@ -37,7 +37,7 @@ no_gone : (t : Bool) (y : Cell) → Source (gone_if t) y → ⊥
 no_gone true y s = s
 no_gone false y s = s
 
-touched_plain : Plain touched
+pub touched_plain : Plain touched
 touched_plain Exists y s = s
 touched_plain Length y s = s
 touched_plain (Byte i) y s = s
@@ -45,7 +45,7 @@ touched_plain (Attr k) y s = s
 touched_plain OmapHeader y s = s
 touched_plain (OmapKey k) y s = s
 
-overwritten_plain : (at n : ℕ) (byte : ℕ → ℕ) → Plain (overwritten at n byte)
+pub overwritten_plain : (at n : ℕ) (byte : ℕ → ℕ) → Plain (overwritten at n byte)
 overwritten_plain at n byte Exists y s = s
 overwritten_plain at n byte Length y s = unless_chosen (nat_lt 0 n) _ y (λ none. none) s
 overwritten_plain at n byte (Byte i) y s = unless_chosen (is_within at n i) _ y (λ none. none) s
@@ -53,7 +53,7 @@ overwritten_plain at n byte (Attr k) y s = s
 overwritten_plain at n byte OmapHeader y s = s
 overwritten_plain at n byte (OmapKey k) y s = s
 
-resized_plain : (n : ℕ) → Plain (resized n)
+pub resized_plain : (n : ℕ) → Plain (resized n)
 resized_plain n Exists y s = s
 resized_plain n Length y s = s
 resized_plain n (Byte i) y s = unless_chosen (nat_le n i) _ y (λ none. none) s
@@ -61,7 +61,7 @@ resized_plain n (Attr k) y s = s
 resized_plain n OmapHeader y s = s
 resized_plain n (OmapKey k) y s = s
 
-attrs_set_plain : (pairs : List Pair) → Plain (attrs_set pairs)
+pub attrs_set_plain : (pairs : List Pair) → Plain (attrs_set pairs)
 attrs_set_plain pairs Exists y s = s
 attrs_set_plain pairs Length y s = s
 attrs_set_plain pairs (Byte i) y s = s
@@ -69,7 +69,7 @@ attrs_set_plain pairs (Attr k) y s = no_set (value_in pairs k) y s
 attrs_set_plain pairs OmapHeader y s = s
 attrs_set_plain pairs (OmapKey k) y s = s
 
-attr_removed_plain : (name : List ℕ) → Plain (attr_removed name)
+pub attr_removed_plain : (name : List ℕ) → Plain (attr_removed name)
 attr_removed_plain name Exists y s = s
 attr_removed_plain name Length y s = s
 attr_removed_plain name (Byte i) y s = s
@@ -77,7 +77,7 @@ attr_removed_plain name (Attr k) y s = no_gone (same_bytes k name) y s
 attr_removed_plain name OmapHeader y s = s
 attr_removed_plain name (OmapKey k) y s = s
 
-attrs_removed_plain : Plain attrs_removed
+pub attrs_removed_plain : Plain attrs_removed
 attrs_removed_plain Exists y s = s
 attrs_removed_plain Length y s = s
 attrs_removed_plain (Byte i) y s = s

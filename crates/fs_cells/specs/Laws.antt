@@ -71,11 +71,3 @@ ReadsOwn = (op : Op) (x y : Cell) → Source (act_of op x) y → is_named op y �
 -- no copy goes from the omap to another part, nor the other way
 abbrev pub OmapApart : Type 0
 OmapApart = (op : Op) (x y : Cell) → Source (act_of op x) y → is_omap x.part ≡ is_omap y.part
-
--- Good starts that every journal has: nothing is done, and all is done and guarded.
-abbrev pub NothingDone : Type 0
-NothingDone = (O : Objects) (ops : List Op) → GoodStart (replay_of O ops (cells_of O) (λ x. 0))
-
-abbrev pub AllDone : Type 0
-AllDone = (O : Objects) (ops : List Op) → AreAllowed O ops
-    → GoodStart (replay_of O ops (cells_of (fold_ops O ops)) (λ x. length ops))

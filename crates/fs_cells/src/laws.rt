@@ -3,8 +3,9 @@ ghost use Rattle.replay_laws.specs.Keeps.{KeepsLaw};
 ghost use Rattle.replay_laws.specs.Places.{PlacesLaw};
 ghost use Rattle.fs_cells.specs.declared.cell.Cell.{Cell};
 ghost use Rattle.fs_cells.specs.Values.{Value, raise};
-ghost use Rattle.fs_cells.specs.Laws.{AllDone, DeterminedLaw, FoldLaw, LeavesOthers, NothingDone, OmapApart, ReadsOwn, ReplayOfOps, RowLaw, UniqueEnd};
-ghost use Rattle.fs_cells.specs.Standing.{JoinLaw, OnceLaw, TxnsWithin};
+ghost use Rattle.fs_cells.specs.Laws.{DeterminedLaw, FoldLaw, LeavesOthers, OmapApart, ReadsOwn, ReplayOfOps, RowLaw, UniqueEnd};
+ghost use Rattle.fs_cells.specs.Standing.{JoinLaw, OnceLaw, TxnsApart, TxnsWithin};
+ghost use Rattle.fs_cells.specs.Starts.{CollsNeeded, DoneSoFar, HalfCloned, Renamed};
 
 /// Objects are determined by which collections are there, and by their cells.
 pub fn cells_law()
@@ -38,10 +39,11 @@ pub fn reads_law()
     ensures apart { OmapApart }
 {}
 
-/// Transactions change and read cells of the collections that they name alone. A crash's image and the journal stand for the
-/// objects after the journal's last transaction, and for no others.
+/// Transactions change and read cells of the groups that they name alone, so those that don't conflict have none in common.
+/// A crash's image and the journal stand for the objects after the journal's last transaction, and for no others.
 pub fn stands_law()
     ensures within { TxnsWithin }
+    ensures apart { TxnsApart }
     ensures join { JoinLaw }
     ensures once { OnceLaw }
 {}
@@ -54,8 +56,11 @@ pub fn keeps_law()
     ensures several { PlacesLaw Cell Value }
 {}
 
-/// Whatever the journal, two starts are good: nothing of it is done, and all of it is done and guarded.
+/// Starts that a store's crashes leave of any journal are good: some of it is done and guarded; a clone is half done; a move
+/// has renamed its file. And why operations have to name collections that are there.
 pub fn starts_law()
-    ensures nothing_done { NothingDone }
-    ensures all_done { AllDone }
+    ensures done_so_far { DoneSoFar }
+    ensures half_cloned { HalfCloned }
+    ensures renamed { Renamed }
+    ensures colls_needed { CollsNeeded }
 {}

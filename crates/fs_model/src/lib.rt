@@ -33,3 +33,10 @@ pub use page::Page;
 pub use pair::{Pair, PairList};
 pub use pair_map::PairMap;
 pub use plain::PlainObjects;
+
+#[cfg(test)]
+mod check_tests;
+#[cfg(test)]
+mod trial_ops;
+#[cfg(test)]
+mod type_tests;

@@ -10,8 +10,8 @@ use Rattle.fs_names.specs.declared.oid.Oid.{Oid}
 use Rattle.fs_names.specs.Numbers.{number_of}
 use Rattle.fs_names.specs.Reading.{coll_of, oid_of}
 use Rattle.fs_model.specs.declared.pair.Pair.{Pair}
-use Rattle.fs_script.specs.declared.statement.Cursor.{Cursor}
-use Rattle.fs_script.specs.declared.statement.Cursor.TheVariants.{Start, At}
+use Rattle.hash_order.specs.declared.cursor.Cursor.{Cursor}
+use Rattle.hash_order.specs.declared.cursor.Cursor.TheVariants.{Start, At}
 use Rattle.fs_script.specs.declared.fault.LineFault.{LineFault}
 use Rattle.fs_script.specs.declared.fault.LineFault.TheVariants.{Bad, Memory}
 use Rattle.fs_script.specs.declared.fault.ScriptWhy.TheVariants.{WrongCount, BadCollection, BadObject, BadNumber, BadBytes}

@@ -1,10 +1,10 @@
--- The lines of a script as they are kept.
+-- Statements as they are kept.
 use Rattle.fs_script.specs.declared.statement.Statement.{Statement}
 use Rattle.fs_script.specs.declared.statement.Statement.TheVariants as statement
-use Rattle.fs_script.specs.declared.script.Said.{Said}
-use Rattle.fs_script.specs.declared.script.Said.TheVariants.{Begin, End, Drain, Colls, Acked, Other}
+use Rattle.fs_script.specs.declared.script.Form.{Form}
+use Rattle.fs_script.specs.declared.script.Form.TheVariants.{Begin, End, Drain, Colls, Acked, Other}
 
-abbrev pub statement_of : Said → Statement
+abbrev pub statement_of : Form → Statement
 statement_of Begin = statement.Begin
 statement_of End = statement.End
 statement_of Drain = statement.Drain

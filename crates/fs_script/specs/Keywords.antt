@@ -85,8 +85,12 @@ op_said op_word.OmapSet words = omapset_said words
 op_said op_word.OmapRm words = omaprm_said words
 op_said op_word.OmapRange words = omaprange_said words
 
+-- an operation as a statement
+abbrev pub done : Reading Op → Reading Statement
+done said = said >>= λ op. Ok (Do op)
+
 unfoldable pub keyword_said : Keyword → List (List ℕ) → Reading Statement
-keyword_said (OpIn op) words = op_said op words >>= λ op. Ok (Do op)
+keyword_said (OpIn op) words = done (op_said op words)
 keyword_said Begin words = begin_said words
 keyword_said End words = end_said words
 keyword_said Drain words = drain_said words

@@ -8,11 +8,11 @@ ghost use Rattle.fs_script.specs.Fields.{TellsFirst, coll_field, name_field, obj
 ghost use Rattle.fs_script.specs.Reading.{Tells};
 ghost use Rattle.fs_script.specs.Words.{pieces_left};
 
-use crate::Cursor;
 use crate::cut::cut;
 use crate::fault::{LineFault, ScriptWhy};
 use fs_model::{Blob, BlobList, Pair, PairList};
 use fs_names::{Coll, NameFault, Oid, decimal, decode_coll, decode_oid};
+use hash_order::Cursor;
 use std::alloc::{AllocError, Global};
 
 pub fn collection(word: &[u8]) -> Result<Coll, LineFault>
@@ -115,7 +115,7 @@ fn decode(alloc: Global, digits: &[u8]) -> Result<Blob, LineFault>
         let Some(byte) = byte(*high, *low) else {
             return Err(LineFault::Bad(ScriptWhy::BadBytes));
         };
-        push(&mut bytes, byte)?;
+        bytes.push_reserved(byte);
         rest = more;
     }
     if rest.is_empty() {

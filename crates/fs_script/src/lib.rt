@@ -18,7 +18,9 @@ mod words;
 
 pub use answer::Answer;
 pub use fault::{ScriptFault, ScriptWhy};
+pub use fs_model::Blob;
+pub use hash_order::Cursor;
 pub use parse::{SCRIPT_LIMIT, parse_script};
 pub use print::{print_answer, print_refusal};
 pub use script::Script;
-pub use statement::{Cursor, Line, Statement};
+pub use statement::{Line, Statement};

@@ -3,100 +3,98 @@ ghost use Rattle.std.specs.Prelude.{◌≡◌, ◌==◌, ◌≤◌, ◌++◌, le
 ghost use Rattle.fs_script.specs.Reading.{Tells};
 ghost use Rattle.fs_script.specs.Words.{pieces_left, words_of};
 ghost use Rattle.fs_script.specs.Statements.{alone_said, read_said, stat_said, attrs_said, omap_said, list_said};
-ghost use Rattle.fs_script.specs.declared.keyword.Keyword.TheVariants.{Op};
 ghost use Rattle.fs_script.specs.Keywords.{keyword_said};
+ghost use Rattle.fs_script.specs.Kept.{statement_of};
 ghost use Rattle.fs_script.specs.Grammar.{statement_said, TellsLine, line_said, TellsScript, ended, lines_said, line_if, opened_after, script_said, script_limit};
 
 use crate::cut::cut;
 use crate::fault::{LineFault, ScriptFault, ScriptWhy};
-use crate::keyword::{Keyword, OpWord};
+use crate::keyword::Keyword;
 use crate::operation::operation;
-use crate::{Line, Script, Statement, field, words};
+use crate::script::{Form, Said};
+use crate::{Script, Statement, field, words};
 use std::alloc::{AllocError, Global};
 
 /// The most bytes that a script may have.
 pub const SCRIPT_LIMIT: usize = 67_108_864;
 
 // A statement that is one word.
-fn alone(rest: Option<&[u8]>, statement: Statement) -> Result<Statement, LineFault>
-    ensures { Tells (alone_said statement (pieces_left 32 rest.entry)) result }
+fn alone(rest: Option<&[u8]>, form: Form) -> Result<Said, LineFault>
+    ensures { Tells (alone_said (statement_of form) (pieces_left 32 rest.entry)) result }
 {
     words::none(rest)?;
-    Ok(statement)
+    Ok(Said::word(form))
 }
 
-fn read(alloc: Global, rest: Option<&[u8]>) -> Result<Statement, LineFault>
+fn read(alloc: Global, rest: Option<&[u8]>) -> Result<Said, LineFault>
     ensures { Tells (read_said (pieces_left 32 rest.entry)) result }
 {
     let (place, at, len) = words::three(rest)?;
     let (c, o) = field::object(alloc, place)?;
     let at = field::number(at)?;
     let len = field::number(len)?;
-    Ok(Statement::Read { c, o, at, len })
+    let said = Said::new(alloc, Statement::Read { c, o, at, len })?;
+    Ok(said)
 }
 
-fn stat(alloc: Global, rest: Option<&[u8]>) -> Result<Statement, LineFault>
+fn stat(alloc: Global, rest: Option<&[u8]>) -> Result<Said, LineFault>
     ensures { Tells (stat_said (pieces_left 32 rest.entry)) result }
 {
     let (c, o) = field::object(alloc, words::one(rest)?)?;
-    Ok(Statement::Stat { c, o })
+    let said = Said::new(alloc, Statement::Stat { c, o })?;
+    Ok(said)
 }
 
-fn attrs(alloc: Global, rest: Option<&[u8]>) -> Result<Statement, LineFault>
+fn attrs(alloc: Global, rest: Option<&[u8]>) -> Result<Said, LineFault>
     ensures { Tells (attrs_said (pieces_left 32 rest.entry)) result }
 {
     let (c, o) = field::object(alloc, words::one(rest)?)?;
-    Ok(Statement::Attrs { c, o })
+    let said = Said::new(alloc, Statement::Attrs { c, o })?;
+    Ok(said)
 }
 
-fn omap(alloc: Global, rest: Option<&[u8]>) -> Result<Statement, LineFault>
+fn omap(alloc: Global, rest: Option<&[u8]>) -> Result<Said, LineFault>
     ensures { Tells (omap_said (pieces_left 32 rest.entry)) result }
 {
     let (c, o) = field::object(alloc, words::one(rest)?)?;
-    Ok(Statement::Omap { c, o })
+    let said = Said::new(alloc, Statement::Omap { c, o })?;
+    Ok(said)
 }
 
-fn list(alloc: Global, rest: Option<&[u8]>) -> Result<Statement, LineFault>
+fn list(alloc: Global, rest: Option<&[u8]>) -> Result<Said, LineFault>
     ensures { Tells (list_said (pieces_left 32 rest.entry)) result }
 {
     let (c, cursor, max) = words::three(rest)?;
     let c = field::collection(c)?;
     let cursor = field::cursor(alloc, cursor)?;
     let max = field::small_number(max)?;
-    Ok(Statement::List { c, cursor, max })
-}
-
-#[tactic(auto, unfolding(crate::specs::Keywords::keyword_said))]
-fn do_operation(alloc: Global, word: OpWord, rest: Option<&[u8]>) -> Result<Statement, LineFault>
-    ensures { Tells (keyword_said (Op word) (pieces_left 32 rest.entry)) result }
-{
-    let op = operation(alloc, word, rest)?;
-    Ok(Statement::Do(op))
+    let said = Said::new(alloc, Statement::List { c, cursor, max })?;
+    Ok(said)
 }
 
 // What a statement says, by its first word and the others.
 #[tactic(auto, unfolding(crate::specs::Keywords::keyword_said))]
-fn known(alloc: Global, keyword: Keyword, rest: Option<&[u8]>) -> Result<Statement, LineFault>
+fn known(alloc: Global, keyword: Keyword, rest: Option<&[u8]>) -> Result<Said, LineFault>
     ensures { Tells (keyword_said keyword (pieces_left 32 rest.entry)) result }
 {
     match keyword {
-        Keyword::Op(word) => do_operation(alloc, word, rest),
-        Keyword::Begin => alone(rest, Statement::Begin),
-        Keyword::End => alone(rest, Statement::End),
-        Keyword::Drain => alone(rest, Statement::Drain),
+        Keyword::Op(word) => operation(alloc, word, rest),
+        Keyword::Begin => alone(rest, Form::Begin),
+        Keyword::End => alone(rest, Form::End),
+        Keyword::Drain => alone(rest, Form::Drain),
         Keyword::Read => read(alloc, rest),
         Keyword::Stat => stat(alloc, rest),
         Keyword::Attrs => attrs(alloc, rest),
         Keyword::Omap => omap(alloc, rest),
         Keyword::List => list(alloc, rest),
-        Keyword::Colls => alone(rest, Statement::Colls),
-        Keyword::Acked => alone(rest, Statement::Acked),
+        Keyword::Colls => alone(rest, Form::Colls),
+        Keyword::Acked => alone(rest, Form::Acked),
     }
 }
 
 // What a line says, by its words.
 #[tactic(auto, unfolding(crate::specs::Grammar::statement_said))]
-fn statement(alloc: Global, line: &[u8], inside: bool) -> Result<Statement, LineFault>
+fn statement(alloc: Global, line: &[u8], inside: bool) -> Result<Said, LineFault>
     ensures { Tells (statement_said inside (words_of line.now)) result }
 {
     let (word, rest) = cut(line, b' ');
@@ -110,7 +108,7 @@ fn statement(alloc: Global, line: &[u8], inside: bool) -> Result<Statement, Line
 }
 
 // What a line says, if anything.
-fn line(alloc: Global, line: &[u8], inside: bool) -> Result<Option<Statement>, LineFault>
+fn line(alloc: Global, line: &[u8], inside: bool) -> Result<Option<Said>, LineFault>
     ensures { TellsLine (line_said inside line.now) result }
 {
     match line.first() {
@@ -120,28 +118,22 @@ fn line(alloc: Global, line: &[u8], inside: bool) -> Result<Option<Statement>, L
 }
 
 // Adds the line of this number to a script, if it says anything.
-fn add(
-    alloc: Global,
-    script: &mut Script,
-    number: u64,
-    said: Option<Statement>,
-) -> Result<(), AllocError>
+fn add(script: &mut Script, number: u64, said: Option<Said>) -> Result<(), AllocError>
     ensures { OnOk result (script.new ≡ script.old ++ line_if number said) }
 {
     match said {
         None => Ok(()),
-        Some(statement) => script.push(alloc, Line { number, statement }),
+        Some(said) => script.push(number, said),
     }
 }
 
 // The line of the `begin` that has no `end` behind this line, if there is one.
-fn opened(number: u64, opened: Option<u64>, said: &Option<Statement>) -> Option<u64>
+fn opened(number: u64, opened: Option<u64>, said: &Option<Said>) -> Option<u64>
     ensures { result ≡ opened_after number opened said.now }
 {
     match said {
-        Some(Statement::Begin) => Some(number),
-        Some(Statement::End) => None,
-        _ => opened,
+        None => opened,
+        Some(said) => said.opened(number, opened),
     }
 }
 
@@ -175,7 +167,7 @@ fn lines(alloc: Global, text: &[u8]) -> Result<Script, ScriptFault>
             Err(LineFault::Memory) => return Err(ScriptFault::Memory),
         };
         begin = opened(number, begin, &said);
-        add(alloc, &mut script, number, said)?;
+        add(&mut script, number, said)?;
         number += 1;
         rest = more;
     }

@@ -1,15 +1,18 @@
-ghost use Rattle.std.specs.Prelude.{◌≡◌, ◌↔◌, [], ◌∷◌, ◌++◌, length, IsTrue, IfOk, IfNone, OnOk, OnErr};
+ghost use Rattle.std.specs.Prelude.{◌≡◌, ◌↔◌, [], ◌∷◌, ◌++◌, length, IsTrue, IfOk, IfNone, OnOk};
 ghost use Rattle.std.specs.Option.{option_to_list};
+ghost use Rattle.fs_script.specs.declared.statement.Statement.TheVariants.{Do};
+ghost use Rattle.fs_script.specs.Grammar.{opened_by};
 ghost use Rattle.fs_script.specs.Kept.{statement_of};
 
 use crate::{Line, Statement};
+use fs_model::Op;
 use std::alloc::{AllocError, Global};
 use std::collections::VecDeque;
 use std::marker::Model;
 
-// A statement as it is kept: what has fields stands on the heap, so that a line takes three words.
+// What a kept statement is: what has fields stands on the heap, so that a line takes three words.
 #[derive(Drop)]
-enum Said {
+pub(crate) enum Form {
     Begin,
     End,
     Drain,
@@ -18,31 +21,78 @@ enum Said {
     Other(Box<Statement>),
 }
 
+/// A statement as it is kept, and as it passes through the parser: it is small, and on the heap as soon as it is made.
+#[derive(Drop)]
+pub(crate) struct Said {
+    form: Form,
+}
+
+impl Model for Said {
+    ghost use Rattle.fs_script.specs.declared.statement.Statement.{Statement};
+    ghost use Rattle.fs_script.specs.Kept.{statement_of};
+
+    ghost Value = { Statement };
+
+    ghost view = { λ said. statement_of said.form };
+}
+
 impl Said {
-    fn new(alloc: Global, statement: Statement) -> Result<Said, AllocError>
-        ensures { IfOk result (λ said. statement_of said ≡ statement) }
+    /// A statement that is one word.
+    pub(crate) fn word(form: Form) -> Said
+        ensures { result ≡ statement_of form }
     {
-        match statement {
-            Statement::Begin => Ok(Said::Begin),
-            Statement::End => Ok(Said::End),
-            Statement::Drain => Ok(Said::Drain),
-            Statement::Colls => Ok(Said::Colls),
-            Statement::Acked => Ok(Said::Acked),
-            other => Ok(Said::Other(Box::new(alloc, other)?)),
+        Said { form }
+    }
+
+    pub(crate) fn new(alloc: Global, statement: Statement) -> Result<Said, AllocError>
+        ensures { IfOk result (λ said. said ≡ statement) }
+    {
+        let statement = Box::new(alloc, statement)?;
+        Ok(Said {
+            form: Form::Other(statement),
+        })
+    }
+
+    pub(crate) fn operation(alloc: Global, op: Op) -> Result<Said, AllocError>
+        ensures { IfOk result (λ said. said ≡ Do op) }
+    {
+        Said::new(alloc, Statement::Do(op))
+    }
+
+    /// The line of the `begin` that has no `end` behind this statement, if there is one.
+    pub(crate) fn opened(&self, number: u64, opened: Option<u64>) -> Option<u64>
+        ensures { result ≡ opened_by number opened self.now }
+    {
+        match &self.form {
+            Form::Begin => Some(number),
+            Form::End => None,
+            Form::Drain | Form::Colls | Form::Acked => opened,
+            Form::Other(statement) => opened_by(number, opened, statement),
         }
     }
 
     fn statement(self) -> Statement
-        ensures { result ≡ statement_of self }
+        ensures { result ≡ self }
     {
-        match self {
-            Said::Begin => Statement::Begin,
-            Said::End => Statement::End,
-            Said::Drain => Statement::Drain,
-            Said::Colls => Statement::Colls,
-            Said::Acked => Statement::Acked,
-            Said::Other(statement) => Box::into_inner(statement),
+        match self.form {
+            Form::Begin => Statement::Begin,
+            Form::End => Statement::End,
+            Form::Drain => Statement::Drain,
+            Form::Colls => Statement::Colls,
+            Form::Acked => Statement::Acked,
+            Form::Other(statement) => Box::into_inner(statement),
         }
+    }
+}
+
+// The line of the `begin` that has no `end` behind a statement, if there is one.
+fn opened_by(number: u64, opened: Option<u64>, statement: &Statement) -> Option<u64>
+    ensures { result ≡ opened_by number opened statement.now }
+{
+    match statement {
+        Statement::Begin => Some(number),
+        Statement::End => None,
+        _ => opened,
     }
 }
 
@@ -55,24 +105,13 @@ struct Kept {
 
 impl Model for Kept {
     ghost use Rattle.fs_script.specs.declared.statement.Line.{Line};
-    ghost use Rattle.fs_script.specs.Kept.{statement_of};
 
     ghost Value = { Line };
 
-    ghost view = { λ k. record { number = k.number; statement = statement_of k.said } };
+    ghost view = { λ k. record { number = k.number; statement = k.said } };
 }
 
 impl Kept {
-    fn new(alloc: Global, line: Line) -> Result<Kept, AllocError>
-        ensures { IfOk result (λ kept. kept ≡ line) }
-    {
-        let said = Said::new(alloc, line.statement)?;
-        Ok(Kept {
-            number: line.number,
-            said,
-        })
-    }
-
     fn line(self) -> Line
         ensures { result ≡ self }
     {
@@ -107,13 +146,11 @@ impl Script {
         }
     }
 
-    /// Adds a line at the end.
-    pub fn push(&mut self, alloc: Global, line: Line) -> Result<(), AllocError>
-        ensures ok { OnOk result (self.new ≡ self.old ++ line ∷ []) }
-        ensures err { OnErr result (self.new ≡ self.old) }
+    /// Adds a statement at the end, with the number of its line.
+    pub(crate) fn push(&mut self, number: u64, said: Said) -> Result<(), AllocError>
+        ensures { OnOk result (self.new ≡ self.old ++ record { number = number; statement = said } ∷ []) }
     {
-        let kept = Kept::new(alloc, line)?;
-        self.lines.push_back(kept)?;
+        self.lines.push_back(Kept { number, said })?;
         Ok(())
     }
 

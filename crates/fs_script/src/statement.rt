@@ -1,14 +1,6 @@
 use fs_model::Op;
 use fs_names::{Coll, Oid};
-
-/// Where a listing begins.
-#[derive(Drop)]
-pub enum Cursor {
-    /// At the collection's first object.
-    Start,
-    /// At this object, or the first after its place.
-    At(Oid),
-}
+use hash_order::Cursor;
 
 /// What a line of a script says.
 #[derive(Drop)]

@@ -13,8 +13,8 @@ use Rattle.fs_model.specs.Rows.{fold_ops}
 use Rattle.fs_model.specs.Check.{txn_refusal, colls_after}
 use Rattle.fs_model.specs.declared.page.Page.{Page}
 use Rattle.fs_model.specs.Listing.{listing}
-use Rattle.fs_script.specs.declared.statement.Cursor.{Cursor}
-use Rattle.fs_script.specs.declared.statement.Cursor.TheVariants.{Start, At}
+use Rattle.hash_order.specs.declared.cursor.Cursor.{Cursor}
+use Rattle.hash_order.specs.declared.cursor.Cursor.TheVariants.{Start, At}
 use Rattle.fs_script.specs.declared.statement.Statement.{Statement}
 use Rattle.fs_script.specs.declared.statement.Statement.TheVariants.{Do, Begin, End, Drain, Read, Stat, Attrs, Omap, List as ListIn, Colls, Acked}
 use Rattle.fs_script.specs.declared.statement.Line.{Line}

@@ -20,6 +20,6 @@ pub fn answers_law()
     ensures numbers { (s : Session) (lines : List Line) →
         (session_after s lines).last ≡ s.last + length (queued_by s lines) }
     ensures counted { (s : Session) (lines : List Line) → IsCounted s → IsCounted (session_after s lines) }
-    ensures acked { (s : Session) (lines : List Line) (acked seq : ℕ) → IsCounted s →
-        Contains (answers s lines) (Drained acked seq) → acked ≤ (session_after s lines).acked }
+    ensures acked { (s : Session) (xs : List Line) (n seq : ℕ) → IsCounted s → Contains (answers s xs) (Drained n seq)
+        → n ≤ (session_after s xs).acked }
 {}

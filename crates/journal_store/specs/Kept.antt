@@ -11,10 +11,13 @@ use Rattle.txn_journal.specs.Held.{IsWritable, AreShort, needs, last_of}
 use Rattle.fs_session.specs.Answers.{Session, started, colls_queued}
 use Rattle.fs_session.specs.Room.{last_number}
 
+-- the journal's ring
+abbrev pub Ring : Type 0
+Ring = State
+
 pub record Store : Type 0 where
   pub session : Session
-  -- the journal's ring
-  pub ring : State
+  pub ring : Ring
 
 -- the operations of each transaction
 abbrev pub ops_of : List Txn → List (List Op)

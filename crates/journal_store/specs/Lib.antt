@@ -1,2 +1,3 @@
 pub mod Kept
+pub mod Underneath
 pub mod Queue

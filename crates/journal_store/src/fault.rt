@@ -8,13 +8,12 @@ use std::alloc::AllocError;
 pub enum QueueFault {
     /// The transaction's lowest refused operation, after all that is queued, and why.
     Txn { op: u32, why: Why },
-    /// The entry of the transaction takes `need` bytes, and the journal's ring has `size` for entries in all; or the
-    /// payload has 2^32 bytes or more, which no entry can spell.
+    /// The entry of the transaction takes `need` bytes, more than the `size` that the journal's ring has for entries; or
+    /// its payload has 2^32 bytes or more.
     TooLarge { need: u64, size: u64 },
-    /// The entry takes `need` bytes, and `free` are free beside the entries that are held and those of the
-    /// transactions that wait.
+    /// The entry takes `need` bytes, and only `free` are left beside what is held and what waits: a drain makes no room.
     RingFull { need: u64, free: u64 },
-    /// 1,024 transactions wait.
+    /// 1,024 transactions wait: a drain makes room.
     QueueFull,
     /// The last number is 2^63 - 1.
     NumbersSpent,

@@ -3,17 +3,16 @@ ghost use Rattle.std.specs.Prelude.{◌≡◌, ◌≤◌, ◌<◌, ◌+◌, ◌^
 ghost use Rattle.std.specs.FinMap as map;
 ghost use Rattle.std.specs.List.{AllByRecursion, flat_map};
 ghost use Rattle.std.specs.Option.{option_map, option_copied};
-ghost use Rattle.fault_count.specs.Counted.{Counted};
 ghost use Rattle.fs_model.specs.Rows.{fold_ops};
 ghost use Rattle.fs_model.specs.Check.{IsWithinLimits};
 ghost use Rattle.fs_model.specs.Objects.{look};
 ghost use Rattle.fs_model.specs.Listing.{listing};
-ghost use Rattle.dev_api.specs.Run.{Keeps};
-ghost use Rattle.txn_journal.specs.History.{History, LeavesPrefix, end_of, more};
-ghost use Rattle.txn_journal.specs.Held.{Holds, last_of};
+ghost use Rattle.txn_journal.specs.History.{History};
+ghost use Rattle.txn_journal.specs.Held.{last_of};
 ghost use Rattle.fs_session.specs.Answers.{free_bytes, queue_answer, queue_step, after_drain, pairs_of};
-ghost use Rattle.journal_store.specs.Kept.{ops_of, store_on};
+ghost use Rattle.journal_store.specs.Kept.{store_on};
 ghost use Rattle.journal_store.specs.Queue.{TellsAnswer};
+ghost use Rattle.journal_store.specs.Underneath.{KeptOn, with_waiting, LeavesWaiting, DeviceFails};
 
 use crate::room::Room;
 use crate::{DrainFault, QueueFault};
@@ -145,16 +144,16 @@ impl JournalStore {
     /// Writes all that was queued to the journal and syncs it, and then applies it. The objects then hold it.
     pub fn drain<D: Device>(self, dev: &mut D) -> Result<JournalStore, DrainFault>
         requires extent { (D.state dev.old).size ≡ self.ring.head.size }
-        requires held { D.tells dev.old → (h : History) × Holds h self.ring (D.state dev.old).disk }
+        requires held { D.tells dev.old → (h : History) × KeptOn h self (D.state dev.old) }
         ensures after { IfOk result (λ store. store.session ≡ after_drain self.session) }
-        ensures holds { D.tells dev.new → (h : History) → Holds h self.ring (D.state dev.old).disk → IfOk result (λ store. Holds (more h (ops_of self.session.waiting)) store.ring (D.state dev.new).disk) }
-        ensures crash { D.tells dev.new → (h : History) → Holds h self.ring (D.state dev.old).disk
-            → Keeps (LeavesPrefix (more h (ops_of self.session.waiting)) (end_of h)) (D.state dev.new).disk (D.state dev.old).past (D.state dev.new).past }
+        ensures holds { D.tells dev.new → (h : History) → KeptOn h self (D.state dev.old) → IfOk result (λ s. KeptOn (with_waiting h self) s (D.state dev.new)) }
+        ensures crash { D.tells dev.new → (h : History) → KeptOn h self (D.state dev.old)
+            → LeavesWaiting h self (D.state dev.old) (D.state dev.new) }
         ensures size { IfOk result (λ store. store.ring.head.size ≡ self.ring.head.size) }
         ensures honest { D.tells dev.new → D.tells dev.old }
         ensures extent { (D.state dev.new).size ≡ (D.state dev.old).size }
         ensures faults { (D.state dev.old).faults ≤ (D.state dev.new).faults }
-        ensures cause { IsErrOf result DrainFault.Device → Counted (D.state dev.old).faults (D.state dev.new).faults }
+        ensures cause { IsErrOf result DrainFault.Device → DeviceFails (D.state dev.old) (D.state dev.new) }
     {
         let JournalStore {
             alloc,

@@ -8,19 +8,19 @@ use Rattle.fs_names.specs.Reading.{OidFits}
 use Rattle.fs_names.specs.Text.{oid_text}
 use Rattle.tree_api.specs.Tree.{Path, Version, Names, Tree}
 use Rattle.tree_api.specs.Disk.{Disk, Sound, Stays, Leaves}
-use Rattle.tree_api.proofs.Moments.{started, goes_on, first, stays_on}
+use Rattle.tree_api.proofs.Moments.{started, goes_on}
 use Rattle.lfn_index.specs.FileName.{HasStem, CalledBy, stem}
 use Rattle.lfn_index.specs.Directory.{lfn_name, entry, HasFile, IsAbsent, Finds}
-use Rattle.lfn_index.specs.Changes.{IsNewName, Making, MakesAt, MadeAt, LongNamed, KeepsNamed, aside, new_file}
-use Rattle.lfn_index.specs.Maps.{Map, IsMap, Whole, Level, KeepsWhole, ForOne, StaysOr, OneGoes, MapsNew, IsInMap, put, content}
+use Rattle.lfn_index.specs.Changes.{IsNewName, Making, MakesAt, LongNamed, KeepsNamed, aside, new_file}
+use Rattle.lfn_index.specs.Maps.{Map, IsMap, Whole, Level, KeepsWhole, IsInMap, put}
 use Rattle.lfn_index.specs.Renaming.{Added, BuiltAside, Come}
 use Rattle.tree_api.specs.Renaming.{Renamed, NoNode, Without}
 use Rattle.lfn_index.proofs.Endings.{never_long}
 use Rattle.lfn_index.proofs.Made.{long_new, short_new}
-use Rattle.lfn_index.proofs.Mapped.{SameView, nodes_view, named_view, file_back, view_map, content_same, Arrives, arrived_map, arrived_other, arrived_here}
+use Rattle.lfn_index.proofs.Mapped.{SameView, nodes_view, named_view, file_back, view_map, Arrives, arrived_map}
 use Rattle.tree_api.proofs.Nodes.{dec_path}
 use Rattle.lfn_index.proofs.Renamings.{come_back, come_here, come_names, without_back}
-use Rattle.tree_api.proofs.Renaming.{moves_by, kept_by}
+use Rattle.tree_api.proofs.Renaming.{kept_by}
 
 -- the place of a new file is free
 pub free_new : (set : Settings) (t : Tree) (dir : Path) (text step : List ℕ) → IsAbsent set t dir text → IsNewName set t dir text step → t.at (entry dir step) ≡ None
@@ -39,13 +39,6 @@ new_kind set t dir text step (inr own) = ap (λ (w : Version). w.dir) (long_new 
 -- no directory but that one has what is built aside
 pub off_aside : (name : List ℕ) (d : Path) → d ≢ aside → (s : List ℕ) → entry d s ≢ entry aside name
 off_aside name d other s same = other (same_from_push d aside s name same).0
-
--- objects where nodes that stand stay
-pub same_for_one : (set : Settings) (dir : Path) (oid : Oid) (to : Option Version) (e c : Tree) → OidFits oid → SameView dir e c → ((step : List ℕ) (k : ℕ) → e.at (entry dir step) ≡ Some k → c.node k ≡ e.node k)
-    → ForOne set dir oid (StaysOr to) e c
-same_for_one set dir oid to e c fits view nodes m is =
-    let same : (o : Oid) → OidFits o → content m c o ≡ content m e o = λ o own. content_same set dir e c m m o refl (λ k at. let found = is.there o k own at in nodes found.0 k found.1.here) in
-    (m, view_map set dir e c view m is, λ o own not. same o own, inl (same oid fits))
 
 module _ (set : Settings) (name : List ℕ) (dir : Path) (oid : Oid) (old new : Disk) (sound : Sound old) (fits : OidFits oid) (absent : IsAbsent set old.tree dir (oid_text oid)) where
   abbrev text : List ℕ
@@ -121,23 +114,6 @@ module _ (set : Settings) (name : List ℕ) (dir : Path) (oid : Oid) (old new : 
         each e c may at others (inl is) whole = there e c may at others (inl is) is (dec_path d dir) whole
         each e c may at others (inr way) whole = view e c (way_view e c at others way.1 d other) whole
 
-    making_one : dir ≢ aside → OneGoes set dir oid (Some (new_file text)) old new
-    making_one other level all = moves_by Such (λ m. m ≡ n) (ForOne set dir oid (StaysOr (Some (new_file text)))) old new sound making.leaves
-        (λ a c may same. same_for_one set dir oid (Some (new_file text)) a c fits (named_view dir a c same) (λ step k here. same.nodes (entry dir step) k here))
-        (λ e c may at others such. each e c may at others such)
-      where
-        each : (e c : Tree) → old.may e → e.at ≡ old.tree.at → ((m : ℕ) → (m ≡ n → ⊥) → c.node m ≡ e.node m) → Such c → ForOne set dir oid (StaysOr (Some (new_file text))) e c
-        each e c may at others (inl is) =
-            let comes = new_arrives e c at others other (none_there level e may at) is.0 is.1 in
-            λ m map. (
-              put text n m,
-              arrived_map set dir oid making.step n e c comes m map,
-              λ o own differ. arrived_other set dir oid making.step n e c comes m map o own differ,
-              inr (arrived_here set dir oid making.step n e c comes m map ∙ ap Some is.1),
-            )
-        each e c may at others (inr way) =
-            same_for_one set dir oid (Some (new_file text)) e c fits (way_view e c at others way.1 dir other) (λ step k here. stays_node e c at others dir other step k here)
-
     -- files with long names keep their texts
     abbrev Own : List ℕ → Version → Type 0
     Own step v = (x : List ℕ) × (200 < length x) × HasStem (stem set x) step × (v.attr lfn_name ≡ Some x)
@@ -182,11 +158,6 @@ module _ (set : Settings) (name : List ℕ) (dir : Path) (oid : Oid) (old new : 
         (λ e c may at others such whole. (whole.0, view_map set d e c (cleared_view e c at others such d other) whole.0 whole.1))
         all
 
-    cleared_one : dir ≢ aside → OneGoes set dir oid (Some (new_file text)) old new
-    cleared_one other level all = moves_by Cleared NoNode (ForOne set dir oid (StaysOr (Some (new_file text)))) old new sound leaves
-        (λ a c may same. same_for_one set dir oid (Some (new_file text)) a c fits (named_view dir a c same) (λ step k here. same.nodes (entry dir step) k here))
-        (λ e c may at others such. same_for_one set dir oid (Some (new_file text)) e c fits (cleared_view e c at others such dir other) (λ s k here. others k (λ none. none)))
-
     cleared_named : KeepsNamed set old new
     cleared_named d other all = kept_by Cleared NoNode (LongNamed set d) old new sound leaves
         (λ a c may same named step front k long here file.
@@ -206,34 +177,9 @@ module _ (set : Settings) (name : List ℕ) (dir : Path) (oid : Oid) (old new : 
   makes_whole (inl cleared) = cleared_whole cleared
   makes_whole (inr making) = making_whole making
 
-  pub makes_one : dir ≢ aside → MakesAt set place dir text old new → OneGoes set dir oid (Some (new_file text)) old new
-  makes_one other (inl cleared) = cleared_one cleared other
-  makes_one other (inr making) = making_one making other
-
   pub makes_named : MakesAt set place dir text old new → KeepsNamed set old new
   makes_named (inl cleared) = cleared_named cleared
   makes_named (inr making) = making_named making
-
-  -- the map as it reads
-  pub made_maps : dir ≢ aside → (p : Path) → MadeAt set place dir text old new p → MapsNew set dir oid old.tree new.tree p
-  made_maps other p made =
-      let making = made.making in
-      let added : Added Long place (entry dir making.step) making.n old.tree.at new.tree.at =
-      subst (λ (q : Path). Added Long place q making.n old.tree.at new.tree.at) made.path made.names in
-      let holds : new.tree.node making.n ≡ new_file text = made.holds in
-      let comes = new_arrives making old.tree new.tree refl making.leaves.now.others other absent.none added holds in
-      record {
-        n = making.n;
-        here = made.names.here;
-        stands = (making.step, making.n, made.path, comes.file);
-        map = λ m is. arrived_map set dir oid making.step making.n old.tree new.tree comes m is;
-        reads = λ m is. (
-          put text making.n m,
-          arrived_map set dir oid making.step making.n old.tree new.tree comes m is,
-          λ o own differ. arrived_other set dir oid making.step making.n old.tree new.tree comes m is o own differ,
-          arrived_here set dir oid making.step making.n old.tree new.tree comes m is ∙ ap Some holds,
-        );
-      }
 
 -- what was found, in the map's words
 pub find_maps : (set : Settings) (t : Tree) (dir : Path) (o : Oid) (r : Option Path) → OidFits o → Finds set t dir (oid_text o) r → (m : Map) → IsMap set t dir m → IsInMap t m o r
@@ -252,9 +198,3 @@ found_maps set t dir o text (Err e) fits same found = tt
 pub whole_stays : (set : Settings) (old new : Disk) → Sound old → Stays old new → KeepsWhole set old new
 whole_stays set old new sound stays d other level all =
     goes_on (Whole set d) old old new (started (Whole set d) old sound all) stays.time (λ c may. all c (stays.image c may))
-
-pub one_stays : (set : Settings) (dir : Path) (oid : Oid) (to : Option Version) (old new : Disk) → Sound old → Stays old new → OneGoes set dir oid to old new
-one_stays set dir oid to old new sound stays level all =
-    let R = ForOne set dir oid (StaysOr to) in
-    let same : (c : Tree) → ForOne set dir oid (StaysOr to) c c = λ c m is. (m, is, λ o own not. refl, inl refl) in
-    stays_on R old old new sound (first R same old sound) stays

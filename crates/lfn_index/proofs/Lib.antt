@@ -1,5 +1,4 @@
 pub mod Building
-pub mod Elsewhere
 pub mod Endings
 pub mod FirstMap
 pub mod Gaps
@@ -12,8 +11,10 @@ pub mod Listings
 pub mod LongNames
 pub mod Made
 pub mod Mapped
+pub mod Moves
 pub mod Named
 pub mod Once
+pub mod Only
 pub mod Places
 pub mod Removing
 pub mod Renamings

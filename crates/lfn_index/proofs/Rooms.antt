@@ -1,6 +1,9 @@
 -- Room for a file, and a file that goes there.
 use Rattle.std.proofs.Common.{◌≡◌, ◌⊎◌, inl, inr, ℕ, ◌<◌, ◌≤◌, ◌^◌, List, length, refl, sym, ◌∙◌, ap, subst, Option, Some, None, Result, Ok, Err, IfOk, OnOk, arith}
+use Rattle.fs_names.specs.declared.oid.Oid.{Oid}
 use Rattle.fs_names.specs.declared.settings.Settings.{Settings}
+use Rattle.fs_names.specs.Reading.{OidFits}
+use Rattle.fs_names.specs.Text.{oid_text}
 use Rattle.tree_api.specs.Tree.{Path, Names, Tree, IsFile, IsDir, IsAbove, HasParent, MovedFile, Named}
 use Rattle.tree_api.specs.Disk.{Disk, Sound, Stays, Leaves, NameChange}
 use Rattle.tree_api.proofs.Images.{on_ok2}
@@ -10,9 +13,11 @@ use Rattle.lfn_index.specs.FileName.{CalledBy, stem, long_name}
 use Rattle.lfn_index.specs.Directory.{entry}
 use Rattle.lfn_index.specs.Changes.{IsLeast}
 use Rattle.lfn_index.specs.Moving.{Same, ShortMove}
-use Rattle.lfn_index.specs.Room.{IsRoom, Shifted}
+use Rattle.lfn_index.specs.Maps.{KeepsOthersLevel}
+use Rattle.lfn_index.specs.Room.{IsRoom, Shifted, ObjectShifts, ObjectShifted}
 use Rattle.lfn_index.proofs.Homing.{names_same, names_joins}
 use Rattle.lfn_index.proofs.Made.{not_above}
+use Rattle.lfn_index.proofs.Moves.{shift_moves, shift_reads, shift_level}
 
 pub own_room : (set : Settings) (t : Tree) (dir p : Path) (text step : List ℕ) → p ≡ entry dir step → t.at p ≡ None → IsRoom set t dir text step p
 own_room set t dir p text step path free = (step, path, free, λ lfn called. called)
@@ -78,3 +83,27 @@ module _ (set : Settings) (from dir : Path) (text step : List ℕ) (d0 d1 : Disk
       nodes = ap (λ (x : Tree). x.node) done ∙ ap (λ (x : Tree). x.node) stays.tree;
       snaps = ap (λ (x : Tree). x.snap) done ∙ ap (λ (x : Tree). x.snap) stays.tree;
     })
+
+-- the maps of all directories
+module _ {T : Type 0} (set : Settings) (from dir : Path) (oid : Oid) (step : List ℕ) (d0 d1 : Disk) (s0 : Sound d0) (s1 : Sound d1) (stays : Stays d0 d1)
+    (file : IsFile d0.tree from) (is_dir : IsDir d0.tree dir) (p : Path) (room : IsRoom set d0.tree dir (oid_text oid) step p) (fits : OidFits oid) (d2 : Disk) (r : Result T TreeError) (change : NameChange (MovedFile from p) d1 d2 r) where
+  move : ShortMove from p d0 d2
+  move = shifts set from dir (oid_text oid) step d0 d1 s0 s1 stays file is_dir p room d2 r change
+
+  pub shift_objects : ObjectShifts set from dir oid step d0 d2
+  shift_objects n own = shift_moves set from dir oid step d0 s0 fits file p room n own move.at move.moved d2 move.leaves
+
+  abbrev kept : MovedFile from p d0.tree.at change.at
+  kept = subst (λ (x : Tree). MovedFile from p x.at change.at) stays.tree change.is
+
+  pub shift_now : OnOk r (ObjectShifted set from dir oid step d0 d2)
+  shift_now = on_ok2 r change.ok change.ok (λ done again n own.
+      shift_reads set from dir oid step d0 s0 fits file p room n own change.at kept d2.tree (ap (λ (x : Tree). x.at) done) (ap (λ (x : Tree). x.node) done ∙ ap (λ (x : Tree). x.node) stays.tree))
+
+  steps : Leaves (Named change.at) d0 d2
+  steps = leaves_more (Named change.at) (names_same change.at) (names_joins change.at) d0 d1 d2 s1
+      (leaves_none (Named change.at) (names_same change.at) (names_joins change.at) d0 d1 s0 stays) (record { steps = change.step; now = change.partly })
+
+  pub shift_levels : Sound d2 → OnOk r (KeepsOthersLevel from d0 d2)
+  shift_levels s2 = on_ok2 r change.ok change.ok (λ done again.
+      shift_level from p d0 d2 s0 s2 change.at kept steps (ap (λ (x : Tree). x.at) done) (ap (λ (x : Tree). x.node) done ∙ ap (λ (x : Tree). x.node) stays.tree))

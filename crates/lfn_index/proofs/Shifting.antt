@@ -1,4 +1,4 @@
--- A file moves by one rename to a short name: the objects of each directory, in each image.
+-- A file moves: the objects of each directory, in each image.
 use Rattle.std.proofs.Common.{◌≡◌, ◌≢◌, inl, inr, ⊎_elim, ℕ, ◌<◌, ◌≤◌, true, false, List, length, refl, sym, ◌∙◌, ap, subst, arith, Some, None}
 use Rattle.std.proofs.lemmas.List.{same_from_push}
 use Rattle.fs_names.specs.declared.oid.Oid.{Oid}
@@ -6,16 +6,16 @@ use Rattle.fs_names.specs.declared.settings.Settings.{Settings}
 use Rattle.fs_names.specs.Reading.{OidFits}
 use Rattle.fs_names.specs.Text.{oid_text}
 use Rattle.tree_api.specs.Tree.{Path, Version, Names, Tree, IsFile, MovedFile, Named}
-use Rattle.tree_api.specs.Disk.{Disk, Sound, From}
+use Rattle.tree_api.specs.Disk.{Disk, Sound, From, Leaves}
 use Rattle.tree_api.proofs.Images.{names_now, same_some}
 use Rattle.std.proofs.lemmas.Bool.{cases_eq}
 use Rattle.lfn_index.specs.FileName.{CalledBy}
 use Rattle.tree_api.proofs.Moments.{weaker}
-use Rattle.lfn_index.specs.Directory.{lfn_name, entry, HasFile}
+use Rattle.lfn_index.specs.Directory.{lfn_name, entry, HasFile, IsFileOf}
 use Rattle.lfn_index.specs.Changes.{aside}
 use Rattle.lfn_index.specs.Maps.{Map, IsMap, Whole, Level, KeepsWhole}
-use Rattle.lfn_index.specs.Moving.{ShortMove, Same, Renews, LongMove, Moved, renewed, MovesAt}
-use Rattle.lfn_index.proofs.Mapped.{SameView, nodes_view, view_map, file_along, file_back}
+use Rattle.lfn_index.specs.Moving.{Same, Renews, LongMove, Moved, renewed, MovesAt}
+use Rattle.lfn_index.proofs.Mapped.{nodes_view, view_map, file_along, file_back}
 use Rattle.lfn_index.proofs.Once.{called_texts}
 use Rattle.tree_api.proofs.Nodes.{dec_path}
 use Rattle.lfn_index.proofs.Removing.{less, less_other, less_some}
@@ -54,88 +54,88 @@ departed_map set dir n e c goes m is = record {
         let v = goes.nodes s k file.here not in
         file_along set dir e c text s k (goes.kept s k file.here not ∙ sym file.here) (ap (λ (w : Version). w.dir) v) (ap (λ (w : Version). w.attr lfn_name) v) file
 
-module _ (set : Settings) (from dir : Path) (oid : Oid) (old new : Disk) (sound : Sound old) (fits : OidFits oid) (file : IsFile old.tree from) (short : length (oid_text oid) ≤ 200) (move : ShortMove from (entry dir (oid_text oid)) old new) where
+-- by one rename, to a name that is the text's
+module _ (set : Settings) (from dir : Path) (oid : Oid) (old : Disk) (sound : Sound old) (fits : OidFits oid) (file : IsFile old.tree from) (name : List ℕ) (at_new : Names) (moved : MovedFile from (entry dir name) old.tree.at at_new)
+    (called : (e : Tree) → old.may e → e.at ≡ old.tree.at → CalledBy set (oid_text oid) name ((e.node file.0).attr lfn_name))
+    (once : (e : Tree) → old.may e → e.at ≡ old.tree.at → (s : List ℕ) (k : ℕ) → k ≢ file.0 → HasFile set e dir (oid_text oid) s k → s ≡ name)
+    (mine : (e : Tree) → old.may e → e.at ≡ old.tree.at → (o : Oid) (k : ℕ) → k ≢ file.0 → IsFileOf set e dir o name k → oid_text o ≡ oid_text oid) where
   abbrev to : Path
-  to = entry dir (oid_text oid)
+  to = entry dir name
 
   abbrev n : ℕ
   n = file.0
 
-  module _ (e c : Tree) (may : old.may e) (at : e.at ≡ old.tree.at) (names : c.at ≡ move.at) (nodes : c.node ≡ e.node) where
+  module _ (e c : Tree) (may : old.may e) (at : e.at ≡ old.tree.at) (names : c.at ≡ at_new) (nodes : c.node ≡ e.node) where
     node : (k : ℕ) → c.node k ≡ e.node k
     node k = ap (λ (f : ℕ → Version). f k) nodes
 
     from_e : e.at from ≡ Some file.0
     from_e = ap (λ (f : Names). f from) at ∙ file.1
 
-    now_at : (q : Path) → q ≢ from → q ≢ to → c.at q ≡ e.at q
-    now_at q nf nt = ap (λ (f : Names). f q) names ∙ move.moved.others q nf nt ∙ sym (ap (λ (f : Names). f q) at)
+    pub now_at : (q : Path) → q ≢ from → q ≢ to → c.at q ≡ e.at q
+    now_at q nf nt = ap (λ (f : Names). f q) names ∙ moved.others q nf nt ∙ sym (ap (λ (f : Names). f q) at)
 
-    -- onto itself
-    still_view : from ≡ to → (d : Path) → SameView d e c
-    still_view same d = nodes_view d e c (λ s. elim (dec_path (entry d s) to) [
-      | inl is ↦ ap c.at is ∙ ap (λ (f : Names). f to) names ∙ move.moved.moved ∙ ap old.tree.at same ∙ sym (ap (λ (f : Names). f to) at) ∙ ap e.at (sym is)
-      | inr other ↦ now_at (entry d s) (λ is. other (is ∙ same)) other
-    ]) (λ s k here. node k)
+    -- it left from where it stood, unless it goes onto itself
+    off_from : (q : Path) (k : ℕ) → q ≢ to → c.at q ≡ Some k → q ≢ from
+    off_from q k not here same = let z : None ≡ Some k = sym (ap (λ (f : Names). f from) names ∙ moved.gone (λ onto. not (same ∙ onto))) ∙ ap c.at (sym same) ∙ here in cc
 
-    gone : from ≢ to → c.at from ≡ None
-    gone differ = ap (λ (f : Names). f from) names ∙ move.moved.gone differ
-
-    was_there : from ≢ to → (q : Path) (k : ℕ) → q ≢ to → c.at q ≡ Some k → (e.at q ≡ Some k) × (k ≢ n)
-    was_there differ q k not here =
-        let off : q ≢ from = λ same. let z : None ≡ Some k = sym (gone differ) ∙ ap c.at (sym same) ∙ here in cc in
-        let was : e.at q ≡ Some k = sym (now_at q off not) ∙ here in
-        (was, λ same. off (sound.single e q from n may (was ∙ ap Some same) from_e))
+    was_there : (q : Path) (k : ℕ) → q ≢ to → c.at q ≡ Some k → (e.at q ≡ Some k) × (k ≢ n)
+    was_there q k not here =
+        let was : e.at q ≡ Some k = sym (now_at q (off_from q k not here) not) ∙ here in
+        (was, λ same. off_from q k not here (sound.single e q from n may (was ∙ ap Some same) from_e))
 
     still_there : (q : Path) (k : ℕ) → q ≢ to → e.at q ≡ Some k → k ≢ n → c.at q ≡ Some k
     still_there q k not here other =
         let off : q ≢ from = λ same. let z : Some k ≡ Some n = sym here ∙ ap e.at same ∙ from_e in other cc in
         now_at q off not ∙ here
 
-    departs : from ≢ to → (d : Path) → d ≢ dir → Departs d n e c
-    departs differ d not = record {
-      was = λ s k here. was_there differ (entry d s) k (λ same. not (same_from_push d dir s (oid_text oid) same).0) here;
-      kept = λ s k here other. still_there (entry d s) k (λ same. not (same_from_push d dir s (oid_text oid) same).0) here other;
+    pub departs : (d : Path) → d ≢ dir → Departs d n e c
+    departs d not = record {
+      was = λ s k here. was_there (entry d s) k (λ same. not (same_from_push d dir s name same).0) here;
+      kept = λ s k here other. still_there (entry d s) k (λ same. not (same_from_push d dir s name same).0) here other;
       nodes = λ s k here other. node k;
     }
 
-    replaces : from ≢ to → Replaces set dir oid (oid_text oid) n e c
-    replaces differ = record {
+    pub replaces : Replaces set dir oid name n e c
+    replaces = record {
       fits = fits;
       file = record {
-        here = ap (λ (f : Names). f to) names ∙ move.moved.moved ∙ file.1;
+        here = ap (λ (f : Names). f to) names ∙ moved.moved ∙ file.1;
         kind = ap (λ (v : Version). v.dir) (node n) ∙ sound.kinds e n may ∙ file.2;
-        called = inl (short, refl);
+        called = subst (λ (v : Version). CalledBy set (oid_text oid) name (v.attr lfn_name)) (sym (node n)) (called e may at);
       };
-      was = λ s k off here. was_there differ (entry dir s) k (λ same. off (same_from_push dir dir s (oid_text oid) same).1) here;
-      kept = λ s k off here other. still_there (entry dir s) k (λ same. off (same_from_push dir dir s (oid_text oid) same).1) here other;
+      was = λ s k off here. was_there (entry dir s) k (λ same. off (same_from_push dir dir s name same).1) here;
+      kept = λ s k off here other. still_there (entry dir s) k (λ same. off (same_from_push dir dir s name same).1) here other;
       nodes = λ s k here other. node k;
-      once = λ s k other own. ⊎_elim (λ name. name.1) (λ long. absurd (omega (arith, long.0, short))) own.called;
-      mine = λ o k other own. called_texts set o oid (oid_text oid) _ own.1.called (inl (short, refl));
+      once = λ s k other own. once e may at s k other own;
+      mine = λ o k other own. mine e may at o k other own;
     }
 
-  pub short_whole : KeepsWhole set old new
-  short_whole d other level all = weaker (From old (Named move.at)) (Whole set d) old new move.leaves.any_moment (λ c from_c. each c from_c.0 from_c.1 from_c.2)
+  pub renamed_whole : (new : Disk) → Leaves (Named at_new) old new → KeepsWhole set old new
+  renamed_whole new leaves d other level all = weaker (From old (Named at_new)) (Whole set d) old new leaves.any_moment (λ c from_c. each c from_c.0 from_c.1 from_c.2)
     where
-      viewed : (e c : Tree) → SameView d e c → Whole set d e → Whole set d c
-      viewed e c view whole = (whole.0, view_map set d e c view whole.0 whole.1)
-
-      moved : (e c : Tree) → old.may e → e.at ≡ old.tree.at → c.at ≡ move.at → c.node ≡ e.node → Whole set d e → Whole set d c
-      moved e c may at names nodes whole = elim (dec_path from to) [
-        | inl same ↦ viewed e c (still_view e c may at names nodes same d) whole
-        | inr differ ↦ elim (dec_path d dir) [
-          | inl here ↦
-              let own = subst (λ (x : Path). Whole set x e) here whole in
-              let comes = replaces e c may at names nodes differ in
-              subst (λ (x : Path). Whole set x c) (sym here) (moved_in set dir oid (oid_text oid) n e c comes own.0 own.1, replaced_map set dir oid (oid_text oid) n e c comes own.0 own.1)
-          | inr away ↦ ((λ o. less n (whole.0 o)), departed_map set d n e c (departs e c may at names nodes differ d away) whole.0 whole.1)
-        ]
+      moves : (e c : Tree) → old.may e → e.at ≡ old.tree.at → c.at ≡ at_new → c.node ≡ e.node → Whole set d e → Whole set d c
+      moves e c may at names nodes whole = elim (dec_path d dir) [
+        | inl here ↦
+            let own = subst (λ (x : Path). Whole set x e) here whole in
+            let comes = replaces e c may at names nodes in
+            subst (λ (x : Path). Whole set x c) (sym here) (moved_in set dir oid name n e c comes own.0 own.1, replaced_map set dir oid name n e c comes own.0 own.1)
+        | inr away ↦ ((λ o. less n (whole.0 o)), departed_map set d n e c (departs e c may at names nodes d away) whole.0 whole.1)
       ]
 
-      each : (c a : Tree) → old.may a → Named move.at a c → Whole set d c
+      each : (c a : Tree) → old.may a → Named at_new a c → Whole set d c
       each c a may is = ⊎_elim
-          (λ same. viewed a c (nodes_view d a c (λ s. ap (λ (f : Names). f (entry d s)) same) (λ s k here. ap (λ (f : ℕ → Version). f k) is.nodes)) (all a may))
-          (λ new_names. let e = record a { at = old.tree.at } in moved e c (names_now old sound a may) refl new_names is.nodes (all e (names_now old sound a may))) is.names
+          (λ same.
+          let was = all a may in
+          (was.0, view_map set d a c (nodes_view d a c (λ s. ap (λ (f : Names). f (entry d s)) same) (λ s k here. ap (λ (f : ℕ → Version). f k) is.nodes)) was.0 was.1))
+          (λ new_names. let e = record a { at = old.tree.at } in moves e c (names_now old sound a may) refl new_names is.nodes (all e (names_now old sound a may))) is.names
+
+-- a short name is its own
+pub short_once : (set : Settings) (e : Tree) (dir : Path) (text s : List ℕ) (k : ℕ) → length text ≤ 200 → HasFile set e dir text s k → s ≡ text
+short_once set e dir text s k short own = ⊎_elim (λ name. name.1) (λ long. absurd (omega (arith, long.0, short))) own.called
+
+pub short_mine : (set : Settings) (e : Tree) (dir : Path) (o oid : Oid) (k : ℕ) → length (oid_text oid) ≤ 200 → IsFileOf set e dir o (oid_text oid) k → oid_text o ≡ oid_text oid
+short_mine set e dir o oid k short own = called_texts set o oid (oid_text oid) _ own.1.called (inl (short, refl))
 
 -- nothing has changed that stands
 pub still_whole : (set : Settings) (d : Path) (a c : Tree) (n : ℕ) → c.at ≡ a.at → c.node n ≡ a.node n → ((m : ℕ) → m ≢ n → c.node m ≡ a.node m) → Whole set d a → Whole set d c
@@ -169,7 +169,7 @@ module _ (set : Settings) (from : Path) (name : List ℕ) (oid : Oid) (old new :
         way.others (entry d s) differ (off s) ∙ sym (ap (λ (f : Names). f (entry d s)) at) ∙ here
 
     -- names of this directory that are those by the way
-    way_departs : ((s : List ℕ) → c.at (entry d s) ≡ by_way (entry d s)) → Departs d n e c
+    pub way_departs : ((s : List ℕ) → c.at (entry d s) ≡ by_way (entry d s)) → Departs d n e c
     way_departs names = record {
       was = λ s k here. way_was s k (sym (names s) ∙ here);
       kept = λ s k here not. names s ∙ way_kept s k here not;
@@ -210,7 +210,7 @@ module _ (set : Settings) (from : Path) (name : List ℕ) (dir : Path) (oid : Oi
         let here : old.tree.at (entry dir s) ≡ Some k = sym (ap (λ (f : Names). f (entry dir s)) at) ∙ own.here in
         file_back set dir old.tree e text s k (ap (λ (f : Names). f (entry dir s)) at) (sound.kinds e k may) (level.called e s k may here) own
 
-    comes : Replaces set dir oid move.step move.n e c
+    pub comes : Replaces set dir oid move.step move.n e c
     comes = record {
       fits = fits;
       file = record {
@@ -270,6 +270,8 @@ module _ (set : Settings) (from : Path) (name : List ℕ) (dir : Path) (oid : Oi
 pub moves_whole : (set : Settings) (from : Path) (name : List ℕ) (dir : Path) (oid : Oid) (old new : Disk) → Sound old → OidFits oid → IsFile old.tree from → MovesAt set from (entry aside name) dir (oid_text oid) old new → KeepsWhole set old new
 moves_whole set from name dir oid old new sound fits file (inl same) d other level all =
     weaker (From old Same) (Whole set d) old new same.any_moment (λ c from_c. subst (Whole set d) (sym from_c.2) (all from_c.0 from_c.1))
-moves_whole set from name dir oid old new sound fits file (inr (inl move)) d other level all = short_whole set from dir oid old new sound fits file move.0 move.1 d other level all
+moves_whole set from name dir oid old new sound fits file (inr (inl move)) d other level all =
+    renamed_whole set from dir oid old sound fits file (oid_text oid) move.1.at move.1.moved (λ e may at. inl (move.0, refl)) (λ e may at s k differ own. short_once set e dir (oid_text oid) s k move.0 own)
+    (λ e may at o k differ own. short_mine set e dir o oid k move.0 own) new move.1.leaves d other level all
 moves_whole set from name dir oid old new sound fits file (inr (inr more)) d other level all =
     ⊎_elim (λ renews. renews_whole set from name oid old new sound fits file renews d other level all) (λ move. long_whole set from name dir oid old new sound fits file more.0 move d other level all) more.1

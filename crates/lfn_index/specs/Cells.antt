@@ -21,3 +21,14 @@ pub record Cells (a b x v : Option Version) : Type 0 where
   pub len : OneOf (length (bytes_in x)) (length (bytes_in a)) (length (bytes_in b)) (length (bytes_in v))
   pub byte : (i : ℕ) → OneOf (slice_index (bytes_in x) i) (slice_index (bytes_in a) i) (slice_index (bytes_in b) i) (slice_index (bytes_in v) i)
   pub attr : (k : List ℕ) → OneOf (attr_in x k) (attr_in a k) (attr_in b k) (attr_in v k)
+
+-- f of v, with this attribute beside it, is the same as of x, a or b
+abbrev pub OneBeside : {A : Type 0} → List ℕ → (Option Version → A) → Option Version → Option Version → Option Version → Option Version → Type 0
+OneBeside {A} key f a b x v = OneOf {A = A × Option (List ℕ)} (f x, attr_in x key) (f a, attr_in a key) (f b, attr_in b key) (f v, attr_in v key)
+
+-- each cell of v, with this attribute beside it, is the same as in x, a or b
+pub record CellsBeside (key : List ℕ) (a b x v : Option Version) : Type 0 where
+  pub there : OneBeside key is_there a b x v
+  pub len : OneBeside key (λ y. length (bytes_in y)) a b x v
+  pub byte : (i : ℕ) → OneBeside key (λ y. slice_index (bytes_in y) i) a b x v
+  pub attr : (k : List ℕ) → OneBeside key (λ y. attr_in y k) a b x v

@@ -1,12 +1,12 @@
 pub mod Cells
 pub mod Changes
 pub mod Directory
-pub mod Elsewhere
 pub mod Entries
 pub mod FileName
 pub mod Listing
 pub mod Maps
 pub mod Moving
+pub mod OneObject
 pub mod Renaming
 pub mod Room
 pub mod Subdirs

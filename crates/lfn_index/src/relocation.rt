@@ -1,5 +1,5 @@
 // A file moves within its collection.
-ghost use Rattle.std.specs.Prelude.{◌≡◌, ◌⊎◌, ◌<◌, ◌≤◌, length, IfOk, IsErrOf};
+ghost use Rattle.std.specs.Prelude.{◌≡◌, ◌⊎◌, ◌<◌, ◌≤◌, length, IfOk, OnOk, IsErrOf};
 ghost use Rattle.fs_names.specs.Text.{oid_text};
 ghost use Rattle.tree_api.specs.Step.{IsStep};
 ghost use Rattle.tree_api.specs.Counts.{Counts};
@@ -7,7 +7,8 @@ ghost use Rattle.tree_api.specs.Tree.{Path, IsDir, IsFile};
 ghost use Rattle.tree_api.specs.Disk.{Leaves, Still};
 ghost use Rattle.lfn_index.specs.Directory.{entry};
 ghost use Rattle.lfn_index.specs.Moving.{Same, ShortMove};
-ghost use Rattle.lfn_index.specs.Room.{IsRoom, Shifted};
+ghost use Rattle.lfn_index.specs.Maps.{KeepsOthersLevel};
+ghost use Rattle.lfn_index.specs.Room.{IsRoom, Shifted, ObjectShifts, ObjectShifted};
 
 use crate::file_name::{SHORT, stem};
 use crate::making::free_path;
@@ -92,8 +93,12 @@ pub fn shift<T: FileTree>(
     ensures counts { Counts (IsErrOf result IndexFault.Tree) 2 0 (T.disk tree.old) (T.disk tree.new) }
     ensures leaves { T.tells tree.new → Leaves Same (T.disk tree.old) (T.disk tree.new) ⊎ ((p : Path) × IsRoom set.now (T.disk tree.old).tree dir.now (oid_text oid.now) step.now p × ShortMove from.now p (T.disk tree.old) (T.disk tree.new)) }
     ensures moved { T.tells tree.new → IfOk result (Shifted set.now from.now dir.now (oid_text oid.now) step.now (T.disk tree.old).tree (T.disk tree.new).tree) }
+    ensures object { T.tells tree.new → ObjectShifts set.now from.now dir.now oid.now step.now (T.disk tree.old) (T.disk tree.new) }
+    ensures reads { T.tells tree.new → OnOk result (ObjectShifted set.now from.now dir.now oid.now step.now (T.disk tree.old) (T.disk tree.new)) }
+    ensures level { T.tells tree.new → OnOk result (KeepsOthersLevel from.now (T.disk tree.old) (T.disk tree.new)) }
     ensures damaged { T.tells tree.new → (p : Path) → IsErrOf result (IndexFault.Damaged p) → (length (oid_text oid.now) ≤ 200) × (p ≡ entry dir.now step.now) }
 {
+    oid.fits();
     let path = room(alloc, tree, set, dir, oid, step)?;
     tree.rename(from, &path)?;
     Ok(path)

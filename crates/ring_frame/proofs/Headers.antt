@@ -10,7 +10,7 @@ use Rattle.byteorder.specs.Endian.{big_bytes, big_number}
 use Rattle.sha1.specs.Sha1.{sha1}
 use Rattle.ring_frame.specs.Frame.{stands_at}
 use Rattle.ring_frame.specs.Heads.{Head, ring_magic, head_bytes, told_head, head_fits, head_in}
-use Rattle.ring_frame.specs.Facts.{length-sha1}
+use Rattle.ring_frame.proofs.Facts.{length-sha1}
 use Rattle.ring_frame.proofs.Numbers.{AreBytes, bytes_back_at}
 use Rattle.ring_frame.proofs.Seals.{part_stands, stands_from}
 

@@ -2,17 +2,17 @@
 use Rattle.std.proofs.Common.{◌≡◌, ℕ, ◌-◌, ◌<◌, ◌≤◌, ⊎_elim, Bool, true, false, cond, not, List, ◌++◌, length, take, drop, refl, sym, ap, ◌∙◌, arith, length-drop, length-append, append_assoc}
 use Rattle.std.specs.Prelude.{Option, Some, None, nat_lt}
 use Rattle.std.proofs.Math.Seq.{take-add}
-use Rattle.std.proofs.lemmas.List.{length-take-le, take_at, drop_at, take_all}
-use Rattle.std.proofs.lemmas.Bool.{cond-true, cond-false, ltb-false, lt-ltb, le-ltb, not_from_true, not_from_false, cases_Bool}
+use Rattle.std.proofs.lemmas.List.{length-take-le, take_at, drop_at, take_all, take-take}
+use Rattle.std.proofs.lemmas.Bool.{cond-true, cond-false, ltb-false, lt-ltb, le-ltb, not_from_true, not_from_false, cases_Bool, cases_lt}
 use Rattle.std.proofs.lemmas.Slice.Eq.{bytes_eq-Decides}
 use Rattle.byteorder.specs.Endian.{big_bytes}
 use Rattle.byteorder.specs.Numbers.{length-bytes_high_first}
 use Rattle.sha1.specs.Sha1.{sha1}
 use Rattle.ring_frame.specs.declared.reading.FrameFault.{FrameFault}
 use Rattle.ring_frame.specs.declared.reading.FrameFault.TheVariants.{Short, NoMagic, WrongRing, WrongPlace, BadDigest, BadFooter}
-use Rattle.ring_frame.specs.Frame.{entry_magic, need, Entry, head, front, told_length, told, stands_at, is_sealed, entry}
+use Rattle.ring_frame.specs.Frame.{entry_magic, need, Entry, head, front, told_length, told, stands_at, is_sealed, entry, size_of}
 use Rattle.ring_frame.specs.Faults.{due_digest, seal_fault, frame_fault}
-use Rattle.ring_frame.specs.Facts.{need-room, Sealed, sealed_parts, entry_from, told_payload, length-sha1, length-head, piece}
+use Rattle.ring_frame.proofs.Facts.{need-room, Sealed, sealed_parts, entry_from, entry_told, entry_same, not_some, number_same, told_payload, length-sha1, length-head, piece}
 use Rattle.ring_frame.proofs.Numbers.{AreBytes, AreBytes-drop, bytes_back_4, bytes_back_at}
 
 -- ---- what a test of a part says
@@ -230,3 +230,34 @@ module _ (fsid : List ℕ) (place : ℕ) (bytes : List ℕ) (ring : 8 ≤ length
 
   pub read_sealed : entry fsid place bytes ≡ Some (told bytes)
   read_sealed = entry_from fsid place bytes (sealed_from_whole fsid place bytes small (whole_from fsid place bytes ring none))
+
+-- ---- what the first bytes tell
+
+same_fault : (x y : FrameFault) → Some x ≡ Some y → x ≡ y
+same_fault x y e = cc
+
+-- where they have a fault other than Short, all of them are no entry
+pub front_fault : (fsid : List ℕ) (place n : ℕ) (bytes : List ℕ) (x : FrameFault) → 8 ≤ length fsid → 64 ≤ n → n ≤ length bytes
+    → frame_fault fsid place (take n bytes) ≡ Some x → (x ≡ Short → ⊥) → entry fsid place bytes ≡ None
+front_fault fsid place n bytes x ring low fits fault other = not_some (entry fsid place bytes) (λ e is.
+    let t = entry_told fsid place bytes e is in
+    let w = whole_from_sealed fsid place bytes ring t.parts in
+    let front : List ℕ = take n bytes in
+    let l : length front ≡ n = length-take-le n bytes fits in
+    let same : take n front ≡ take n bytes = take-take n n bytes (omega arith) in
+    let told_same : told_length front ≡ told_length bytes = number_same n front bytes same 40 4 (omega (arith, low)) in
+    let needs : need (told_length front) ≡ need (told_length bytes) = ap need told_same in
+    let paid : length e.payload ≡ told_length bytes = sym (ap (λ (y : Entry). length y.payload) t.is) ∙ told_payload bytes t.parts.room in
+    let size : size_of e ≡ need (told_length bytes) = ap need paid in
+    let seal : frame_fault fsid place front ≡ seal_fault front =
+    fault_seal fsid place front (omega (arith, l, low))
+    (stands_from front 0 8 entry_magic refl (piece n front bytes same 0 8 (omega (arith, low)) ∙ w.magic))
+    (stands_from front 8 8 (take 8 fsid) (length-take-le 8 fsid ring) (piece n front bytes same 8 8 (omega (arith, low)) ∙ w.ring))
+    (stands_from front 16 8 (big_bytes 8 place) (length-bytes_high_first 8 place) (piece n front bytes same 16 8 (omega (arith, low)) ∙ w.place_is)) in
+    ⊎_elim
+    (λ (c : n < need (told_length bytes)).
+    other (same_fault x Short (sym fault ∙ seal ∙ seal_short front (due_digest front) (need (told_length front)) refl refl (omega (arith, l, c, needs)))))
+    (λ (c : need (told_length bytes) ≤ n).
+    let here = entry_same fsid place bytes front e is (sym (take-take (size_of e) n bytes (omega (arith, size, c)))) in
+    none_or_some x _ (no_fault fsid place front ring (entry_told fsid place front e here).parts) fault)
+    (cases_lt n (need (told_length bytes))))

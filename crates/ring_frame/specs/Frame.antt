@@ -1,9 +1,17 @@
 -- How an entry of the ring is spelled: 64 bytes in front, the payload, zeros up to whole blocks, and in the last 64
 -- bytes the front again. The zeros are not read.
-use Rattle.std.specs.Prelude.{ℕ, ◌+◌, ◌-◌, ◌*◌, ◌/◌, ◌<◌, ◌^◌, Bool, ◌&&◌, leb, List, [], ◌∷◌, ◌++◌, length, take, drop, replicate, Option, Some, None, if◌then◌else◌}
+use Rattle.std.specs.Prelude.{◌≡◌, ℕ, ◌+◌, ◌-◌, ◌*◌, ◌/◌, ◌<◌, ◌^◌, Bool, ◌&&◌, leb, List, [], ◌∷◌, ◌++◌, length, take, drop, replicate, Option, Some, None, if◌then◌else◌}
 use Rattle.std.specs.Str.{bytes_eq}
 use Rattle.byteorder.specs.Endian.{big_bytes, big_number}
 use Rattle.sha1.specs.Sha1.{sha1}
+
+-- the bytes of a block
+abbrev pub block_size : ℕ
+block_size = 4096
+
+-- the bytes of both headers' blocks, and so the place where the ring begins
+abbrev pub heads_size : ℕ
+heads_size = 8192
 
 -- `FSENTRY1`
 abbrev pub entry_magic : List ℕ
@@ -11,7 +19,7 @@ entry_magic = 70 ∷ 83 ∷ 69 ∷ 78 ∷ 84 ∷ 82 ∷ 89 ∷ 49 ∷ []
 
 -- the bytes that an entry of a payload of n bytes takes
 unfoldable pub need : ℕ → ℕ
-need n = 4096 * ((n + 128 + 4095) / 4096)
+need n = block_size * ((n + 128 + 4095) / block_size)
 
 pub record Entry : Type 0 where
   pub seq : ℕ
@@ -69,3 +77,7 @@ size_of e = need (length e.payload)
 -- this part stands at a place
 abbrev pub stands_at : List ℕ → ℕ → List ℕ → Bool
 stands_at bytes at part = bytes_eq (take (length part) (drop at bytes)) part
+
+-- two lists agree on the bytes that an entry takes
+abbrev pub AgreeOn : Entry → List ℕ → List ℕ → Type 0
+AgreeOn e bytes others = take (size_of e) bytes ≡ take (size_of e) others

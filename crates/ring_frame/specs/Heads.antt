@@ -3,6 +3,7 @@ use Rattle.std.specs.Prelude.{◌≡◌, ℕ, ◌%◌, ◌<◌, ◌^◌, Bool, �
 use Rattle.std.specs.Str.{bytes_eq}
 use Rattle.byteorder.specs.Endian.{big_bytes, big_number}
 use Rattle.sha1.specs.Sha1.{sha1}
+use Rattle.ring_frame.specs.Frame.{block_size, heads_size}
 use Rattle.ring_frame.specs.declared.head.RingHead.{RingHead}
 
 -- `FSRING01`
@@ -41,12 +42,12 @@ told_head block = record {
 
 -- a device may have this size
 abbrev pub size_fits : ℕ → Bool
-size_fits size = size % 4096 == 0 && (leb 16384 size && leb size (2 ^ 40))
+size_fits size = size % block_size == 0 && (leb 16384 size && leb size (2 ^ 40))
 
 -- the numbers that a header of a device of this size may have
 abbrev pub head_fits : ℕ → Head → Bool
 head_fits size h =
-    size_fits size && (h.size == size && (h.start % 4096 == 0 && (leb 8192 h.start && (ltb h.start size && (leb 1 h.seq && leb h.seq (2 ^ 63))))))
+    size_fits size && (h.size == size && (h.start % block_size == 0 && (leb heads_size h.start && (ltb h.start size && (leb 1 h.seq && leb h.seq (2 ^ 63))))))
 
 -- the header that a block of a device of this size is
 unfoldable pub head_in : ℕ → List ℕ → Option Head
@@ -63,4 +64,4 @@ newer (Some a) (Some b) = if leb a.generation b.generation then Some b else Some
 
 -- the newer sealed header of a device
 unfoldable pub head_of : List ℕ → Option Head
-head_of bytes = newer (head_in (length bytes) (take 4096 bytes)) (head_in (length bytes) (take 4096 (drop 4096 bytes)))
+head_of bytes = newer (head_in (length bytes) (take block_size bytes)) (head_in (length bytes) (take block_size (drop block_size bytes)))

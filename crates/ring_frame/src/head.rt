@@ -4,6 +4,15 @@ ghost use Rattle.ring_frame.specs.Heads.{head_bytes, head_block, told_head, head
 use crate::bytes::{clear, number_at, put_at, stands_at};
 use sha1::Sha1;
 
+/// The bytes of a block.
+pub const BLOCK: usize = 4096;
+
+/// The bytes of a block, as a number of places on a device.
+pub const BLOCK_SIZE: u64 = 4096;
+
+/// The bytes of both headers' blocks, and so the place where a ring begins.
+pub const HEADS_SIZE: u64 = 8192;
+
 /// A header of the ring. Of two headers the one with the higher generation counts.
 #[derive(Clone, Copy, Debug, PartialEq, Eq)]
 pub struct RingHead {
@@ -35,13 +44,13 @@ fn spell_fields(head: &RingHead) -> [u8; 64]
 }
 
 /// Writes the whole block of a header.
-pub fn write_head(head: &RingHead, into: &mut [u8; 4096])
+pub fn write_head(head: &RingHead, into: &mut [u8; BLOCK])
     ensures { into.new ≡ head_block head.now }
 {
     let fields = spell_fields(head);
     put_at(into, 0, &fields);
     put_at(into, 64, &Sha1::digest(&fields));
-    clear(into, 84, 4096);
+    clear(into, 84, BLOCK);
 }
 
 // What a block tells, if it is a header.
@@ -65,19 +74,19 @@ fn told_head(bytes: &[u8]) -> RingHead
 fn fits(head: &RingHead, size: u64) -> bool
     ensures { result ≡ head_fits size head.now }
 {
-    size % 4096 == 0
+    size % BLOCK_SIZE == 0
         && 16384 <= size
         && size <= 1 << 40
         && head.size == size
-        && head.start % 4096 == 0
-        && 8192 <= head.start
+        && head.start % BLOCK_SIZE == 0
+        && HEADS_SIZE <= head.start
         && head.start < size
         && 1 <= head.seq
         && head.seq <= 1 << 63
 }
 
 /// Reads a header of a device of this size. The bytes behind its digest aren't read.
-pub fn read_head(bytes: &[u8; 4096], size: u64) -> Option<RingHead>
+pub fn read_head(bytes: &[u8; BLOCK], size: u64) -> Option<RingHead>
     ensures { result ≡ head_in size bytes.now }
 {
     if !stands_at(bytes, 0, b"FSRING01") {

@@ -1,6 +1,6 @@
 // What holds of the spellings themselves. These functions do nothing: their contracts are proved for all values.
 ghost use Rattle.std.specs.Prelude.{◌≡◌, ℕ, ◌≤◌, List, ◌++◌, length, take, true, Some};
-ghost use Rattle.ring_frame.specs.Frame.{Entry, Fits, entry, entry_magic, need, size_of, spelled};
+ghost use Rattle.ring_frame.specs.Frame.{Entry, AgreeOn, Fits, entry, entry_magic, need, spelled};
 ghost use Rattle.ring_frame.specs.Heads.{Head, HeadFits, head_block, head_fits, head_in};
 
 /// The spelling of an entry is read back, whatever follows it.
@@ -24,7 +24,7 @@ pub fn entry_begins_with_magic()
 /// What is read of a sealed entry doesn't hang on the bytes behind it.
 pub fn entry_stands_alone()
     ensures { (fsid bytes others : List ℕ) (place : ℕ) (e : Entry) → entry fsid place bytes ≡ Some e
-        → take (size_of e) bytes ≡ take (size_of e) others → entry fsid place others ≡ Some e }
+        → AgreeOn e bytes others → entry fsid place others ≡ Some e }
 {}
 
 /// A header that fits the device is read back from its block.

@@ -11,7 +11,7 @@ mod laws;
 mod reading;
 mod spelling;
 
-pub use head::{RingHead, read_head, write_head};
+pub use head::{BLOCK, BLOCK_SIZE, HEADS_SIZE, RingHead, read_head, write_head};
 pub use laws::{
     entry_begins_with_magic, entry_fills_its_blocks, entry_is_read_back, entry_stands_alone,
     head_is_read_back,

@@ -3,6 +3,7 @@ ghost use Rattle.sha1.specs.Sha1.{sha1};
 ghost use Rattle.ring_frame.specs.Frame.{need as need_of, head, front, spelled};
 
 use crate::bytes::{clear, put_at};
+use crate::head::BLOCK_SIZE;
 use sha1::Sha1;
 
 /// The bytes that an entry with a payload of this length takes, whole blocks.
@@ -10,7 +11,7 @@ pub fn need(len: u64) -> u64
     requires { len < 2 ^ 63 }
     ensures { result ≡ need_of len }
 {
-    (len + 128).next_multiple_of(4096)
+    (len + 128).next_multiple_of(BLOCK_SIZE)
 }
 
 /// The digest of two pieces, one after the other.

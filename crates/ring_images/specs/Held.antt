@@ -1,7 +1,7 @@
 -- What a ring on a device holds, and what a crash may make of it.
 use Rattle.std.specs.Prelude.{◌≡◌, ◌⊎◌, ℕ, ◌-◌, ◌<◌, ◌≤◌, List, [], ◌++◌, length, take, drop, Option, Some, None}
 use Rattle.dev_api.specs.Disk.{Disk, IsImage, HasSize, Outside}
-use Rattle.ring_frame.specs.Frame.{Entry}
+use Rattle.ring_frame.specs.Frame.{Entry, block_size, heads_size}
 use Rattle.ring_frame.specs.Heads.{Head, head_in, head_of}
 use Rattle.ring_images.specs.Readable.{Ring, Stand, IsClean, EndsAt, NoChance, read_from, sizes, Begins}
 use Rattle.ring_images.specs.Turned.{turned, place_of}
@@ -20,27 +20,42 @@ readable bytes = read_under (head_of bytes) bytes
 
 -- a header of an image's block is one of before the writes since the last sync or of after them
 abbrev pub HeadOf : ℕ → ℕ → Disk → List ℕ → Type 0
-HeadOf size at d c = (h : Head) → head_in size (take 4096 (drop at c)) ≡ Some h
-    → (head_in size (take 4096 (drop at d.stable)) ≡ Some h) ⊎ (head_in size (take 4096 (drop at d.asked)) ≡ Some h)
+HeadOf size at d c = (h : Head) → head_in size (take block_size (drop at c)) ≡ Some h
+    → (head_in size (take block_size (drop at d.stable)) ≡ Some h) ⊎ (head_in size (take block_size (drop at d.asked)) ≡ Some h)
 
 -- a seal of the image matches by chance nowhere where a reader looks
 pub record IsSound (d : Disk) (c : List ℕ) : Type 0 where
   pub first : HeadOf (length c) 0 d c
-  pub second : HeadOf (length c) 4096 d c
+  pub second : HeadOf (length c) block_size d c
   pub entries : (h : Head) → head_of c ≡ Some h
       → NoChance (ring_of h (length c)) 0 (turned h.start d.stable) (turned h.start d.asked) (turned h.start c) (readable c)
+
+-- what the device reads is sound
+abbrev pub ReadsSound : Disk → Type 0
+ReadsSound d = IsSound d d.reads
+
+-- the entries that are synced, and all that were asked
+abbrev pub synced : Disk → List Entry
+synced d = readable d.stable
+
+abbrev pub held : Disk → List Entry
+held d = readable d.asked
+
+-- these entries stand in the ring of this header
+abbrev pub StandUnder : Head → List ℕ → List Entry → Type 0
+StandUnder h bytes es = Stand (ring_of h h.size) 0 h.seq 0 (turned h.start bytes) es
 
 -- The device holds the entries fs, which are synced, and then es, under the header h.
 pub record OnDisk (h : Head) (size : ℕ) (fs es : List Entry) (d : Disk) : Type 0 where
   pub sized : HasSize size d
-  pub low : 8192 ≤ h.start
+  pub low : heads_size ≤ h.start
   pub high : h.start ≤ size
   pub header : head_of d.stable ≡ Some h
   pub header_now : head_of d.asked ≡ Some h
   -- nothing was written since the last sync in the headers' blocks or over what is synced
-  pub aside : (i : ℕ) → i < 8192 → Outside d.written i
+  pub aside : (i : ℕ) → i < heads_size → Outside d.written i
   pub apart : (i : ℕ) → i < sizes fs → Outside d.written (place_of size h.start i)
-  pub room : sizes (fs ++ es) ≤ size - 8192
+  pub room : sizes (fs ++ es) ≤ size - heads_size
   pub synced : Stand (ring_of h size) 0 h.seq 0 (turned h.start d.stable) fs
   pub stand : Stand (ring_of h size) 0 h.seq 0 (turned h.start d.asked) (fs ++ es)
   -- no block behind the synced entries began with an entry at the last sync

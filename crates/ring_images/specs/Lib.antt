@@ -1,16 +1,8 @@
 pub mod Readable
 pub mod Turned
 pub mod Held
-pub mod Linear
-pub mod Crash
 pub mod Append
 pub mod Silent
-pub mod Clearing
-pub mod HeadStep
-pub mod Rotate
-pub mod Standing
 pub mod Cleaning
 pub mod Begun
-pub mod Telling
 pub mod Headers
-pub mod Made

@@ -1,7 +1,7 @@
 -- The entries of a ring, read from its start on. A ring that begins at its start place has no wrap: `bytes` is what
 -- is left of it, the first byte at the next place.
 use Rattle.std.specs.Prelude.{◌≡◌, ◌≢◌, ◌⊎◌, ℕ, zero, suc, ◌+◌, ◌*◌, ◌^◌, Bool, ◌&&◌, leb, ltb, ◌==◌, List, [], ◌∷◌, ◌++◌, take, drop, Option, Some, None, if◌then◌else◌}
-use Rattle.ring_frame.specs.Frame.{Entry, entry, entry_magic, size_of}
+use Rattle.ring_frame.specs.Frame.{Entry, entry, entry_magic, size_of, block_size}
 
 -- what a ring's header tells its reader
 pub record Ring : Type 0 where
@@ -30,6 +30,10 @@ IsRead ring offset seq low bytes (e ∷ es) =
     (next ring offset seq low bytes ≡ Some e)
     × IsRead ring (offset + size_of e) (seq + 1) e.epoch (drop (size_of e) bytes) es
 
+-- there is at most one such list
+abbrev pub AtMostOne : (List Entry → Type 0) → Type 0
+AtMostOne P = (es fs : List Entry) → P es → P fs → es ≡ fs
+
 -- they stand there, whatever follows
 abbrev pub Stand : Ring → ℕ → ℕ → ℕ → List ℕ → List Entry → Type 0
 Stand ring offset seq low bytes [] = Unit {0}
@@ -47,7 +51,7 @@ read_from (suc n) ring offset seq low bytes = elim (next ring offset seq low byt
 
 -- no block begins as an entry does
 abbrev pub IsClean : List ℕ → Type 0
-IsClean bytes = (k : ℕ) → take 8 (drop (4096 * k) bytes) ≢ entry_magic
+IsClean bytes = (k : ℕ) → take 8 (drop (block_size * k) bytes) ≢ entry_magic
 
 -- nor does the first
 abbrev pub EndsAt : List ℕ → Type 0

@@ -4,13 +4,13 @@
 //! entries follow one another up to the device's end, and go on at place 8,192. `Readable.antt` says which entries are
 //! read of a ring that was turned so that it begins at its start; `Held.antt` says the same of a device's bytes
 //! (`readable`), which images of a device are sound (`IsSound`: no seal matches by chance), and what all sound images
-//! leave (`Left`, `Leaves`). The other files prove what the writes of a ring leave.
+//! leave (`Left`, `Leaves`). What the writes of a ring leave is proved in `proofs/`.
 #![tactic(auto)]
 
 ghost use Rattle.std.specs.Prelude.{◌≡◌, ◌<◌, ◌≤◌, ℕ, List, length, Some};
 ghost use Rattle.ring_frame.specs.Frame.{Entry};
 ghost use Rattle.ring_frame.specs.Heads.{Head, head_of};
-ghost use Rattle.ring_images.specs.Readable.{IsRead, Ring};
+ghost use Rattle.ring_images.specs.Readable.{AtMostOne, IsRead, Ring};
 ghost use Rattle.ring_images.specs.Turned.{turned};
 ghost use Rattle.ring_images.specs.Held.{ring_of, readable, Left};
 
@@ -18,7 +18,7 @@ ghost use Rattle.ring_images.specs.Held.{ring_of, readable, Left};
 /// no other list of entries is read so.
 pub fn readable_law()
     ensures read { (bytes : List ℕ) (h : Head) → head_of bytes ≡ Some h → IsRead (ring_of h (length bytes)) 0 h.seq 0 (turned h.start bytes) (readable bytes) }
-    ensures only { (ring : Ring) (offset seq low : ℕ) (bytes : List ℕ) (es fs : List Entry) → IsRead ring offset seq low bytes es → IsRead ring offset seq low bytes fs → es ≡ fs }
+    ensures only { (ring : Ring) (offset seq low : ℕ) (bytes : List ℕ) → AtMostOne (IsRead ring offset seq low bytes) }
 {}
 
 /// Where just some entries are left, these are read.

@@ -4,20 +4,18 @@ use Rattle.std.specs.Prelude.{Option, Some, None}
 use Rattle.std.proofs.lemmas.List.{append-nil, take-take, drop-take, take_all, take_at, drop_at, length-take-le, length-replicate, take-replicate, drop-replicate, replicate-append-replicate, get_or-take, get_or-drop, get_or_append_left, get_or-append_right}
 use Rattle.std.proofs.lemmas.Bool.{cases_lt}
 use Rattle.dev_api.specs.Disk.{Disk, IsImage, Outside, HasSize, put, wrote, wrote_in_part, settled}
-use Rattle.dev_api.specs.Put.{length-put, put_front, put_here, same_front}
+use Rattle.dev_api.proofs.Put.{length-put, put_front, put_here, same_front, drop_past}
 use Rattle.ring_frame.specs.Heads.{Head, head_in, head_of, head_block, newer}
-use Rattle.ring_images.specs.Headers.{IsSize, head_zeros}
-use Rattle.ring_images.specs.Held.{EachSound, Left, HeadOf, Leaves}
-use Rattle.ring_images.specs.Crash.{each_settled, each_weaker}
+use Rattle.ring_images.specs.Headers.{IsSize}
+use Rattle.ring_images.proofs.Headers.{head_zeros}
+use Rattle.ring_images.specs.Held.{EachSound, Left, HeadOf, Leaves, ring_of, readable}
+use Rattle.ring_images.proofs.Crash.{each_settled, each_weaker, is_read}
 use Rattle.ring_journal.specs.State.{made, first_head}
 use Rattle.ring_journal.specs.Making.{WrittenIn, Remains, LeavesMaking}
 use Rattle.ring_images.specs.Turned.{turned}
-use Rattle.ring_images.specs.Linear.{next_none, read_once}
-use Rattle.ring_images.specs.Held.{ring_of, readable}
-use Rattle.ring_images.specs.Crash.{is_read}
+use Rattle.ring_images.proofs.Linear.{next_none, read_once}
 use Rattle.ring_images.specs.Readable.{EndsAt}
-use Rattle.ring_frame.specs.HeadFacts.{length-head_block}
-use Rattle.dev_api.specs.Put.{drop_past}
+use Rattle.ring_frame.proofs.HeadFacts.{length-head_block}
 use Rattle.ring_journal.proofs.Founds.{head_of_made, left_made, first_back, clean_made}
 
 -- ---- where was written

@@ -8,10 +8,10 @@ use Rattle.ring_frame.specs.Frame.{Entry, size_of}
 use Rattle.ring_frame.specs.Heads.{Head, head_of}
 use Rattle.ring_images.specs.Readable.{Ring, IsRead, NoChance, sizes}
 use Rattle.ring_images.specs.Turned.{turned}
-use Rattle.ring_images.specs.Headers.{head_of_is}
-use Rattle.ring_images.specs.Crash.{is_read, readable_now}
+use Rattle.ring_images.proofs.Headers.{head_of_is}
+use Rattle.ring_images.proofs.Crash.{is_read, readable_now}
 use Rattle.ring_images.specs.Held.{ring_of, readable, IsSound}
-use Rattle.ring_images.specs.Standing.{next_goes}
+use Rattle.ring_images.proofs.Standing.{next_goes}
 use Rattle.ring_journal.specs.State.{State, IsState, Holds, Ended, Numbered, from}
 use Rattle.ring_journal.proofs.Begins.{used_all, count_all}
 

@@ -1,3 +1,4 @@
+pub mod Drawn
 pub mod Events
 pub mod History
 pub mod Images

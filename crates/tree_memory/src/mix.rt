@@ -1,7 +1,9 @@
 // Nodes whose cells are each as they were or as they are now.
-ghost use Rattle.std.specs.Prelude.{◌≡◌, ◌⊎◌, ◌<◌, ◌≤◌, ◌==◌, ℕ, true, false, length, slice_index, OnOk};
+ghost use Rattle.std.specs.Prelude.{◌≡◌, ◌⊎◌, ◌<◌, ◌≤◌, ◌==◌, ℕ, true, false, length, slice_index, OnOk, if◌then◌else◌};
 ghost use Rattle.tree_api.specs.Tree.{Mix};
+ghost use Rattle.draws.specs.State.{next_state};
 ghost use Rattle.tree_memory.specs.Nodes.{version};
+ghost use Rattle.tree_memory.specs.Drawn.{takes};
 
 use crate::node::{Change, Node, lengthen};
 use draws::Draws;
@@ -25,9 +27,11 @@ impl Chooser {
         }
     }
 
-    /// Never, where the oldest is chosen, and drawn otherwise.
+    /// Never, where the oldest is chosen, and else where the next number is odd.
     pub fn takes(&mut self) -> bool
         ensures oldest { self.new.oldest ≡ self.old.oldest }
+        ensures draws { self.new.draws ≡ next_state self.old.draws }
+        ensures drawn { result ≡ takes self.old.oldest self.old.draws }
         ensures never { self.old.oldest ≡ true → result ≡ false }
     {
         let drawn = self.draws.draw() % 2 == 1;
@@ -36,6 +40,7 @@ impl Chooser {
 
     fn byte(&mut self, old: u8, now: u8) -> u8
         ensures one { (result ≡ old) ⊎ (result ≡ now) }
+        ensures drawn { result ≡ if takes self.old.oldest self.old.draws then now else old }
         ensures oldest { self.new.oldest ≡ self.old.oldest }
         ensures kept { self.old.oldest ≡ true → result ≡ old }
     {
@@ -61,7 +66,7 @@ impl Node {
                 let end = first.saturating_add(bytes.len());
                 mix_bytes(&mut self.bytes, &now.bytes, first, end, chooser)
             }
-            Change::Cut { .. } => mix_bytes(&mut self.bytes, &now.bytes, 0, 0, chooser),
+            Change::Cut { .. } => { mix_bytes(&mut self.bytes, &now.bytes, 0, usize::MAX, chooser) }
             Change::Attr { name, .. } => self.mix_attr(now, name, chooser),
         }
     }
@@ -73,6 +78,7 @@ impl Node {
         chooser: &mut Chooser,
     ) -> Result<(), AllocError>
         ensures mixed { OnOk result (Mix (version self.old) (version now.now) (version self.new)) }
+        ensures left { takes chooser.old.oldest chooser.old.draws ≡ false → version self.new ≡ version self.old }
         ensures oldest { chooser.new.oldest ≡ chooser.old.oldest }
         ensures kept { chooser.old.oldest ≡ true → version self.new ≡ version self.old }
     {
@@ -89,7 +95,7 @@ impl Node {
     }
 }
 
-// The length, and each byte from one place to another.
+// The length, and each byte from one place to another. Past its end `now` has zeros.
 fn mix_bytes(
     bytes: &mut Vec<u8>,
     now: &[u8],
@@ -103,7 +109,7 @@ fn mix_bytes(
     ensures kept { chooser.old.oldest ≡ true → bytes.new.items ≡ bytes.old.items }
 {
     mix_len(bytes, now.len(), chooser)?;
-    let end = end.min(bytes.len()).min(now.len());
+    let end = end.min(bytes.len());
     mix_slice(bytes, now, first, end, chooser);
     Ok(())
 }
@@ -111,6 +117,7 @@ fn mix_bytes(
 fn mix_len(bytes: &mut Vec<u8>, len: usize, chooser: &mut Chooser) -> Result<(), AllocError>
     ensures len { OnOk result ((length bytes.new.items ≡ length bytes.old.items) ⊎ (length bytes.new.items ≡ len)) }
     ensures byte { OnOk result ((i : ℕ) → i < length bytes.new.items → slice_index bytes.new.items i ≡ slice_index bytes.old.items i) }
+    ensures left { takes chooser.old.oldest chooser.old.draws ≡ false → bytes.new.items ≡ bytes.old.items }
     ensures oldest { chooser.new.oldest ≡ chooser.old.oldest }
     ensures kept { chooser.old.oldest ≡ true → bytes.new.items ≡ bytes.old.items }
 {
@@ -122,14 +129,21 @@ fn mix_len(bytes: &mut Vec<u8>, len: usize, chooser: &mut Chooser) -> Result<(),
     Ok(())
 }
 
+// A byte, or 0 past the end.
+#[tactic(auto, using(std::proofs::lemmas::List::get_or_past))]
+fn byte_at(bytes: &[u8], at: usize) -> u8
+    ensures { result ≡ slice_index bytes.now at }
+{
+    if at < bytes.len() { bytes[at] } else { 0 }
+}
+
 fn mix_slice(bytes: &mut [u8], now: &[u8], first: usize, end: usize, chooser: &mut Chooser)
-    requires in_bytes { end ≤ length bytes.old }
-    requires in_now { end ≤ length now.now }
+    requires { end ≤ length bytes.old }
     ensures byte { (i : ℕ) → (slice_index bytes.new i ≡ slice_index bytes.old i) ⊎ (slice_index bytes.new i ≡ slice_index now.now i) }
     ensures oldest { chooser.new.oldest ≡ chooser.old.oldest }
     ensures kept { chooser.old.oldest ≡ true → bytes.new ≡ bytes.old }
 {
     for i in first..end {
-        bytes[i] = chooser.byte(bytes[i], now[i]);
+        bytes[i] = chooser.byte(bytes[i], byte_at(now, i));
     }
 }

@@ -247,19 +247,49 @@ fn which(
     Ok(wants.len())
 }
 
-// In each image a file holds one of these: for choice 0 the first, for choice 1 the last.
+// Which of these bytes a crash leaves in a file.
+fn left(
+    rt: &(impl Abort + AllocGlobal),
+    tree: &MemoryTree,
+    choice: u64,
+    path: &TreePath,
+    wants: &[&[u8]],
+) -> Result<usize, TreeError> {
+    let mut image = tree.leave(choice, Vec::new(rt.alloc()))?;
+    which(rt, &mut image, path, wants)
+}
+
+// Whether one of the choices from 2 on leaves these bytes in a file.
+fn comes_up(
+    rt: &(impl Abort + AllocGlobal),
+    tree: &MemoryTree,
+    path: &TreePath,
+    want: &[u8],
+) -> Result<bool, TreeError> {
+    for choice in 2..64 {
+        let mut image = tree.leave(choice, Vec::new(rt.alloc()))?;
+        if holds(rt, &mut image, path, want)? {
+            return Ok(true);
+        }
+    }
+    Ok(false)
+}
+
+// In each image a file holds one of these: for choice 0 the first, for choice 1 the last. Each of them comes up.
 fn check_images(
     rt: &(impl Abort + AllocGlobal),
     tree: &MemoryTree,
     path: &TreePath,
     wants: &[&[u8]],
 ) -> Result<(), TreeError> {
-    for choice in 0..16 {
-        let mut left = tree.leave(choice, Vec::new(rt.alloc()))?;
-        let found = which(rt, &mut left, path, wants)?;
+    for choice in 0..64 {
+        let found = left(rt, tree, choice, path, wants)?;
         assert!(rt; found < wants.len(), "choice {choice}");
         assert!(rt; choice != 0 || found == 0);
         assert!(rt; choice != 1 || found == wants.len() - 1);
+    }
+    for want in wants {
+        assert!(rt; comes_up(rt, tree, path, want)?);
     }
     Ok(())
 }
@@ -320,30 +350,43 @@ fn attributes_are_set_and_removed(rt: HostRuntime) -> Result<(), TreeError> {
     Ok(())
 }
 
+// A file that held `ol`, and into which `nw` was written.
+fn overwritten(alloc: Global, a: &TreePath) -> Result<MemoryTree, TreeError> {
+    let mut tree = MemoryTree::new(alloc, Vec::new(alloc))?;
+    file(&mut tree, &TreePath::root(alloc), b"a")?;
+    write(&mut tree, a, 0, b"ol")?;
+    sync(&mut tree, a)?;
+    write(&mut tree, a, 0, b"nw")?;
+    Ok(tree)
+}
+
 // Each byte is old or new until the file is synced.
 #[test]
 fn a_crash_leaves_old_or_new_bytes(rt: HostRuntime) -> Result<(), TreeError> {
     let alloc: Global = rt.alloc();
-    let mut tree = MemoryTree::new(alloc, Vec::new(alloc))?;
-    let root = TreePath::root(alloc);
-    let a = file(&mut tree, &root, b"a")?;
-    write(&mut tree, &a, 0, b"ol")?;
+    let a = path(alloc, b"a")?;
+    let mut tree = overwritten(alloc, &a)?;
+    let mixes = [b"nw".as_slice(), b"nl", b"ow", b"ol"];
+    check_images(&rt, &tree, &a, &mixes)?;
     sync(&mut tree, &a)?;
-    write(&mut tree, &a, 0, b"nw")?;
+    check_images(&rt, &tree, &a, &[b"nw".as_slice()])
+}
+
+// What each choice leaves of these. The numbers come from another program.
+const DRAWN: [usize; 16] = [0, 3, 2, 1, 1, 0, 1, 1, 0, 0, 1, 0, 0, 1, 0, 0];
+
+#[test]
+fn a_choice_leaves_what_its_numbers_say(rt: HostRuntime) -> Result<(), TreeError> {
+    let alloc: Global = rt.alloc();
+    let a = path(alloc, b"a")?;
+    let tree = overwritten(alloc, &a)?;
+    let mixes = [b"nw".as_slice(), b"nl", b"ow", b"ol"];
     for choice in 0..16 {
-        let mut left = tree.leave(choice, Vec::new(alloc))?;
-        let new = holds(&rt, &mut left, &a, b"nw")?;
-        let old = holds(&rt, &mut left, &a, b"ol")?;
-        let first = holds(&rt, &mut left, &a, b"nl")?;
-        let second = holds(&rt, &mut left, &a, b"ow")?;
-        assert!(rt; new || old || first || second, "choice {choice}");
-        assert!(rt; new || choice != 0);
-        assert!(rt; old || choice != 1);
-    }
-    sync(&mut tree, &a)?;
-    for choice in 0..16 {
-        let mut left = tree.leave(choice, Vec::new(alloc))?;
-        assert!(rt; holds(&rt, &mut left, &a, b"nw")?, "choice {choice}");
+        assert_eq!(rt;
+            left(&rt, &tree, choice as u64, &a, &mixes)?,
+            DRAWN[choice],
+            "choice {choice}"
+        );
     }
     Ok(())
 }
@@ -529,25 +572,70 @@ fn a_crash_leaves_an_old_or_new_length(rt: HostRuntime) -> Result<(), TreeError>
     check_images(&rt, &tree, &a, &[b"ab".as_slice()])
 }
 
+// Bytes that were cut off come back as they were or as zeros.
+#[test]
+fn a_crash_leaves_old_bytes_or_zeros_in_a_gap(rt: HostRuntime) -> Result<(), TreeError> {
+    let alloc: Global = rt.alloc();
+    let mut tree = MemoryTree::new(alloc, Vec::new(alloc))?;
+    let a = file(&mut tree, &TreePath::root(alloc), b"a")?;
+    write(&mut tree, &a, 0, b"abc")?;
+    sync(&mut tree, &a)?;
+    cut(&mut tree, &a, 1)?;
+    cut(&mut tree, &a, 3)?;
+    let mixes = [b"a\0\0".as_slice(), b"a", b"a\0c", b"ab\0", b"abc"];
+    check_images(&rt, &tree, &a, &mixes)
+}
+
+// Whether the attribute `k` is new, and whether `j` was added.
+fn drawn(
+    alloc: Global,
+    tree: &MemoryTree,
+    choice: u64,
+    a: &TreePath,
+) -> Result<(bool, bool), TreeError> {
+    let mut image = tree.leave(choice, Vec::new(alloc))?;
+    let new = value(&mut image, a, b"k", b"w")?;
+    let added = value(&mut image, a, b"j", b"x")?;
+    Ok((new, added))
+}
+
+// Whether one of the choices from 2 on leaves them so.
+fn are_drawn(
+    alloc: Global,
+    tree: &MemoryTree,
+    a: &TreePath,
+    want: (bool, bool),
+) -> Result<bool, TreeError> {
+    for choice in 2..64 {
+        if drawn(alloc, tree, choice, a)? == want {
+            return Ok(true);
+        }
+    }
+    Ok(false)
+}
+
 #[test]
 fn a_crash_leaves_old_or_new_attributes(rt: HostRuntime) -> Result<(), TreeError> {
     let alloc: Global = rt.alloc();
     let mut tree = MemoryTree::new(alloc, Vec::new(alloc))?;
-    let root = TreePath::root(alloc);
-    let a = file(&mut tree, &root, b"a")?;
+    let a = file(&mut tree, &TreePath::root(alloc), b"a")?;
     set(&mut tree, &a, b"k", b"v")?;
     sync(&mut tree, &a)?;
     set(&mut tree, &a, b"k", b"w")?;
     set(&mut tree, &a, b"j", b"x")?;
-    for choice in 0..16 {
-        let mut left = tree.leave(choice, Vec::new(alloc))?;
-        let new = value(&mut left, &a, b"k", b"w")?;
-        let old = value(&mut left, &a, b"k", b"v")?;
-        let added = value(&mut left, &a, b"j", b"x")?;
-        assert!(rt; new != old, "choice {choice}");
-        assert!(rt; attributes(&mut left, &a)? == if added { 2 } else { 1 });
+    for choice in 0..64 {
+        let (new, added) = drawn(alloc, &tree, choice, &a)?;
+        let mut image = tree.leave(choice, Vec::new(alloc))?;
+        assert!(rt;
+            value(&mut image, &a, b"k", b"v")? != new,
+            "choice {choice}"
+        );
+        assert!(rt; attributes(&mut image, &a)? == if added { 2 } else { 1 });
         assert!(rt; choice != 0 || (new && added));
-        assert!(rt; choice != 1 || (old && !added));
+        assert!(rt; choice != 1 || (!new && !added));
+    }
+    for want in [(true, true), (true, false), (false, true), (false, false)] {
+        assert!(rt; are_drawn(alloc, &tree, &a, want)?);
     }
     Ok(())
 }

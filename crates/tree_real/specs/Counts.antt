@@ -12,6 +12,12 @@ pub record Counts : Type 0 where
   pub looks : ℕ
   -- a change was refused, so what is stable isn't known
   pub unsure : Bool
+  -- how many files and folders were synced when it was opened
+  pub settled : ℕ
+
+-- a tree that was just opened
+abbrev pub opened : ℕ → Counts
+opened settled = record { faults = 0; syncs = 0; looks = 0; unsure = false; settled = settled }
 
 -- whether a call was refused
 abbrev pub was_refused : {T : Type 0} → Result T TreeError → Bool

@@ -33,21 +33,17 @@ node_at root path = joined root (codes "tree") ++ along (codes "/") path
 abbrev pub side_at : List ℕ → Path → List ℕ
 side_at root path = joined root (codes "side") ++ along (codes "/c/") path
 
--- the folder of a node's attributes
-abbrev pub attrs_at : List ℕ → Path → List ℕ
-attrs_at root path = joined (side_at root path) (codes "a")
-
 -- the folders of the first pieces of a name
 abbrev pub pieces : ℕ → List ℕ → List ℕ
 pieces zero name = []
 pieces (suc k) name = pieces k name ++ (codes "/-" ++ encode_lower (take 100 (drop (k * 100) name)))
 
--- the file of an attribute, from the folder of attributes on
+-- the file of an attribute, from the node's side folder on
 abbrev pub attr_file : List ℕ → List ℕ
 attr_file name =
     let count = (length name - 1) / 100 in
     pieces count name ++ (codes "/_" ++ encode_lower (drop (count * 100) name))
 
--- the note of a move: the node, its side folder or nothing, and where that comes to stand
-abbrev pub note_text : List ℕ → List ℕ → List ℕ → List ℕ
-note_text node side to = (node ++ codes "\n") ++ (side ++ codes "\n") ++ (to ++ codes "\n")
+-- the note of a move: the node, its new place, its side folder or nothing, and where that comes to stand
+abbrev pub note_text : List ℕ → List ℕ → List ℕ → List ℕ → List ℕ
+note_text node to side aim = (node ++ codes "\n") ++ (to ++ codes "\n") ++ (side ++ codes "\n") ++ (aim ++ codes "\n")

@@ -1,7 +1,7 @@
 ghost use Rattle.std.specs.Prelude.{◌≡◌, ◌≢◌, ◌++◌, ℕ, List, codes, All, IfOk, OnOk, IsErrOf, MatchOption, string_bytes};
 ghost use Rattle.tree_api.specs.declared.tree.TreeError.TheVariants.{Refused};
 ghost use Rattle.hex.specs.Hex.{encode_lower};
-ghost use Rattle.tree_real.specs.Places.{joined, above, IsFileName, node_at, side_at, attrs_at, attr_file};
+ghost use Rattle.tree_real.specs.Places.{joined, above, IsFileName, node_at, side_at, attr_file};
 
 use std::alloc::{AllocError, Global};
 use std::path::Path;
@@ -13,7 +13,10 @@ const PIECE: usize = 100;
 /// Where the things of a tree lie below its root.
 ///
 /// A node lies at `tree` and its path. Its side folder is `side`, with `c` and the step for each step of its path. In
-/// there, `a` has its attributes, and `c` the side folders of its entries.
+/// there its attributes are files `_HEX`, and `c` has the side folders of its entries.
+///
+/// Where a thing lies follows from the root and its path alone, never from the file system's own numbers: so a closed tree
+/// may be copied or moved as a whole.
 #[derive(Debug, Drop)]
 pub struct Layout {
     alloc: Global,
@@ -86,24 +89,14 @@ impl Layout {
         Ok(Place { node, side })
     }
 
-    /// The folder of a node's attributes.
-    pub fn attrs(&self, path: &TreePath) -> Result<String, TreeError>
-        ensures path { IfOk result (λ dir. string_bytes dir ≡ attrs_at (string_bytes self.now.root) path.now) }
-        ensures names { OnOk result (All IsFileName path.now) }
-        ensures refused { IsErrOf result Refused → ¬ (All IsFileName path.now) }
-    {
-        let place = self.place(path)?;
-        Ok(joined(self.alloc, &place.side, "a")?)
-    }
-
     /// The file of an attribute: `_` and the name in hexadecimal digits. Of a long name, folders of `-` and 100 bytes
     /// each come first.
     pub fn attr(&self, path: &TreePath, name: &[u8]) -> Result<String, TreeError>
-        ensures path { IfOk result (λ file. string_bytes file ≡ attrs_at (string_bytes self.now.root) path.now ++ attr_file name.now) }
+        ensures path { IfOk result (λ file. string_bytes file ≡ side_at (string_bytes self.now.root) path.now ++ attr_file name.now) }
         ensures names { OnOk result (All IsFileName path.now) }
         ensures refused { IsErrOf result Refused → ¬ (All IsFileName path.now) }
     {
-        let mut file = self.attrs(path)?;
+        let mut file = self.place(path)?.side;
         self.push_name(&mut file, name)?;
         Ok(file)
     }

@@ -1,18 +1,20 @@
 //! A tree of files on a real file system.
 //!
-//! It tells nothing of its content: what is proved is its safety and its counts. Below its root lie three folders. `tree`
-//! has the tree itself, each node at its path. `side` has the attributes, and `snap` is kept for snapshots.
+//! It tells nothing of its content: what is proved is its safety and its counts. Below its root lie the folders `tree`, with
+//! each node at its path, `side` with the attributes, and `snap`, which is kept for snapshots. Two files come and go beside
+//! them: the mark `dirty` while a process has changes to make, and the note `move` of a node that moves.
 //!
-//! Each change syncs what it touches, the folders too, before it answers. So a sync has little left to do; after a
-//! refused change it is refused as well, until the tree is opened anew, since what stands on the disk isn't known then.
+//! Each change syncs what it touches, the folders too, before it answers. So a sync has nothing left to do.
 #![tactic(auto)]
 
-mod attrs;
 mod disk;
 mod layout;
+mod mark;
 mod moves;
 mod nodes;
+mod note;
 mod real;
+mod side;
 
 pub use real::RealTree;
 

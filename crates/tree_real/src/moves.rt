@@ -1,84 +1,48 @@
-// Nodes that move, with what they have beside them.
+// Nodes that move, with their side folders.
 //
-// The name and the side folder are moved one after the other. So a note is made before: where the move was cut off, the
-// side folder follows when the tree is opened again.
-ghost use Rattle.std.specs.Prelude.{◌≡◌, ◌++◌, List, [], ℕ, if◌then◌else◌, codes, IfOk, OnOk, string_bytes};
-ghost use Rattle.tree_real.specs.Places.{joined, note_text};
+// A node has at each moment the attributes of its side folder, and those alone, though its name and that folder move one
+// after the other. A file with attributes that moves to a free place has its side folder at both places meanwhile: the one
+// of a free place means nothing. Of any other move with a side folder a note is made first, and where the move was cut
+// off behind the node's rename, the side folder follows when the tree is opened again.
 
-use crate::disk;
 use crate::layout::{Layout, Place, above};
 use crate::nodes::{cut_off, fault};
-use std::alloc::{AllocError, Global};
+use crate::note::Note;
+use crate::{disk, side};
 use std::rt::Files;
 use std::{fs, io};
 use tree_api::{TreeError, TreePath};
 
-// The file `move` below the root: a node that moves, its side folder or an empty line where it has none, and where that
-// folder comes to stand. Each path begins after the root.
-#[derive(Drop)]
-struct Note {
-    file: String,
-    new: String,
-    text: String,
+/// How a node moves.
+#[derive(Clone, Copy)]
+enum Way {
+    /// It has no side folder, and none is in its way.
+    Bare,
+    /// A file with a side folder that moves to a free place.
+    Beside,
+    /// With a note.
+    Noted { has_side: bool },
 }
 
-impl Note {
-    fn new(
-        alloc: Global,
-        layout: &Layout,
-        from: &Place,
-        to: &Place,
-        has_side: bool,
-    ) -> Result<Note, AllocError>
-        ensures file { IfOk result (λ note. string_bytes note.file ≡ joined (string_bytes layout.now.root) (codes "move")) }
-        ensures new { IfOk result (λ note. string_bytes note.new ≡ joined (string_bytes layout.now.root) (codes "move.new")) }
-        ensures text { (node side aim : List ℕ) → string_bytes from.now.node ≡ string_bytes layout.now.root ++ node → string_bytes from.now.side ≡ string_bytes layout.now.root ++ side → string_bytes to.now.side ≡ string_bytes layout.now.root ++ aim → IfOk result (λ note. string_bytes note.text ≡ note_text node (if has_side then side else []) aim) }
-    {
-        let side = side_inside(layout, from, has_side);
-        Ok(Note {
-            file: layout.below("move")?,
-            new: layout.below("move.new")?,
-            text: note_text(
-                alloc,
-                layout.inside(&from.node),
-                side,
-                layout.inside(&to.side),
-            )?,
-        })
+// How this node moves.
+fn way_of(rt: &impl Files, old: &Place, new: &Place) -> io::Result<Way> {
+    let has_side = disk::is_there(rt, &old.side)?;
+    if !has_side && !disk::is_there(rt, &new.side)? {
+        return Ok(Way::Bare);
     }
-}
-
-// The lines of a note.
-fn note_text(alloc: Global, node: &str, side: &str, to: &str) -> Result<String, AllocError>
-    ensures { IfOk result (λ text. string_bytes text ≡ note_text node.now side.now to.now) }
-{
-    let mut text = String::new(alloc);
-    push_line(&mut text, node)?;
-    push_line(&mut text, side)?;
-    push_line(&mut text, to)?;
-    Ok(text)
-}
-
-fn push_line(text: &mut String, line: &str) -> Result<(), AllocError>
-    ensures { OnOk result (string_bytes text.new ≡ string_bytes text.old ++ (line.now ++ codes "\n")) }
-{
-    text.push_str(line)?;
-    text.push_str("\n")
-}
-
-// The side folder as a note has it, or nothing where there is none.
-fn side_inside<'a>(layout: &Layout, place: &'a Place, has_side: bool) -> &'a str
-    ensures { (side : List ℕ) → string_bytes place.now.side ≡ string_bytes layout.now.root ++ side → result.now ≡ (if has_side then side else []) }
-{
-    if has_side {
-        layout.inside(&place.side)
+    let is_file = match disk::look(rt, &old.node)? {
+        Some(found) => found.is_file(),
+        None => false,
+    };
+    if has_side && is_file && !disk::is_there(rt, &new.node)? {
+        Ok(Way::Beside)
     } else {
-        ""
+        Ok(Way::Noted { has_side })
     }
 }
 
 /// A node moves, and its side folder follows.
-pub fn rename<R: Files + AllocGlobal>(
+pub fn rename<R: Files + AllocGlobal + Clone + Drop>(
     rt: &R,
     layout: &Layout,
     from: &TreePath,
@@ -86,38 +50,51 @@ pub fn rename<R: Files + AllocGlobal>(
 ) -> Result<(), TreeError> {
     let old = layout.place(from)?;
     let new = layout.place(to)?;
-    let has_side = disk::look(rt, &old.side).map_err(fault)?.is_some();
-    let in_the_way = disk::look(rt, &new.side).map_err(fault)?.is_some();
-    let plain = old.node == new.node || !(has_side || in_the_way);
-    if plain {
-        return disk::rename(rt, &old.node, &new.node).map_err(cut_off);
+    if old.node == new.node {
+        return fs::rename(rt, &old.node, &new.node).map_err(cut_off);
     }
-    let note = Note::new(rt.alloc(), layout, &old, &new, has_side)?;
-    move_noted(rt, &note, &old, &new, has_side).map_err(cut_off)
+    match way_of(rt, &old, &new).map_err(fault)? {
+        Way::Bare => disk::rename(rt, &old.node, &new.node).map_err(cut_off),
+        Way::Beside => move_beside(rt, layout, &old, &new).map_err(cut_off),
+        Way::Noted { has_side } => move_noted(rt, layout, &old, &new, has_side).map_err(cut_off),
+    }
 }
 
-fn move_noted(
-    rt: &(impl Files + AllocGlobal),
-    note: &Note,
+// The files of the side folder are linked at the new place first, and those of the old place go last.
+fn move_beside<R: Files + AllocGlobal + Clone + Drop>(
+    rt: &R,
+    layout: &Layout,
+    old: &Place,
+    new: &Place,
+) -> io::Result<()> {
+    if disk::is_there(rt, &new.side)? {
+        disk::remove_all(rt, &new.side)?;
+    }
+    if !side::link_all(rt, &old.side, &new.side)? {
+        return move_noted(rt, layout, old, new, true);
+    }
+    disk::rename(rt, &old.node, &new.node)?;
+    disk::remove_all(rt, &old.side)
+}
+
+// Where the rename is refused the note stays: it may have been made all the same.
+fn move_noted<R: Files + AllocGlobal>(
+    rt: &R,
+    layout: &Layout,
     old: &Place,
     new: &Place,
     has_side: bool,
 ) -> io::Result<()> {
-    disk::replace(rt, &note.file, &note.new, note.text.as_bytes())?;
-    let moved = fs::rename(rt, &old.node, &new.node);
-    if moved.is_err() {
-        disk::remove_file(rt, &note.file)?;
-        return moved;
-    }
-    let synced = disk::sync_both(rt, &old.node, &new.node);
+    let note = Note::new(rt.alloc(), layout, old, new, has_side)?;
+    note.write(rt)?;
+    disk::rename(rt, &old.node, &new.node)?;
     let side = if has_side {
         Some(old.side.as_str())
     } else {
         None
     };
     follow(rt, side, &new.side)?;
-    disk::remove_file(rt, &note.file)?;
-    synced
+    note.remove(rt)
 }
 
 // The side folder, where the node had one, comes to stand at `to` in place of what is there.
@@ -125,47 +102,66 @@ fn follow(rt: &(impl Files + AllocGlobal), side: Option<&str>, to: &str) -> io::
     let Some(from) = side else {
         return disk::remove_all(rt, to);
     };
-    if disk::look(rt, from)?.is_none() {
-        return Ok(());
+    if !disk::is_there(rt, from)? {
+        return disk::sync_names(rt, from, to);
     }
     disk::remove_all(rt, to)?;
     disk::make_dirs(rt, above(to))?;
     disk::rename(rt, from, to)
 }
 
+/// Whether the note of a move stands.
+pub fn is_noted(rt: &impl Files, layout: &Layout) -> io::Result<bool> {
+    let note = layout.below("move")?;
+    disk::is_there(rt, &note)
+}
+
 /// Ends a move that was cut off.
 pub fn finish<R: Files + AllocGlobal>(rt: &R, layout: &Layout) -> io::Result<()> {
     let note = layout.below("move")?;
-    if disk::look(rt, &note)?.is_none() {
-        return Ok(());
+    if !disk::is_there(rt, &note)? {
+        return disk::sync_name(rt, &note);
     }
     let text = fs::read_to_string(rt, &note)?;
     let mut lines = text.lines();
-    if let (Some(node), Some(from), Some(to)) = (lines.next(), lines.next(), lines.next()) {
-        finish_move(rt, layout, node, from, to)?;
+    if let (Some(node), Some(to), Some(side), Some(aim)) = (
+        lines.next(),
+        lines.next(),
+        lines.next(),
+        lines.next(),
+    ) {
+        let node = layout.outside(node)?;
+        let to = layout.outside(to)?;
+        if has_moved(rt, &node, &to)? {
+            finish_move(rt, layout, side, aim)?;
+        }
     }
     disk::remove_file(rt, &note)
+}
+
+// Whether a node stands at its new place alone. Both names are stable then.
+fn has_moved(rt: &impl Files, node: &str, to: &str) -> io::Result<bool> {
+    if disk::is_there(rt, node)? || !disk::is_there(rt, to)? {
+        return Ok(false);
+    }
+    disk::sync_names(rt, node, to)?;
+    Ok(true)
 }
 
 fn finish_move<R: Files + AllocGlobal>(
     rt: &R,
     layout: &Layout,
-    node: &str,
-    from: &str,
-    to: &str,
+    side: &str,
+    aim: &str,
 ) -> io::Result<()> {
-    let node = layout.outside(node)?;
-    if disk::look(rt, &node)?.is_some() {
-        return Ok(());
-    }
-    let side = layout.outside(from)?;
-    let to = layout.outside(to)?;
+    let from = layout.outside(side)?;
+    let to = layout.outside(aim)?;
     follow(
         rt,
-        if from.is_empty() {
+        if side.is_empty() {
             None
         } else {
-            Some(side.as_str())
+            Some(from.as_str())
         },
         &to,
     )

@@ -4,7 +4,7 @@ ghost use Rattle.std.specs.IoError.{error_kind};
 ghost use Rattle.tree_api.specs.declared.tree.TreeError.TheVariants.{Memory, Refused};
 
 use crate::disk;
-use crate::layout::{Layout, above};
+use crate::layout::{Layout, Place};
 use std::collections::BTreeMap;
 use std::fs::Metadata;
 use std::io::ErrorKind;
@@ -87,11 +87,19 @@ pub fn list<R: Files + AllocGlobal + Clone + Drop>(
 }
 
 // Takes away what a node that went may have left beside this free place.
-fn clear(rt: &(impl Files + AllocGlobal), node: &str, side: &str) -> io::Result<()> {
-    if disk::look(rt, node)?.is_some() {
+fn clear(rt: &(impl Files + AllocGlobal), place: &Place) -> io::Result<()> {
+    if disk::is_there(rt, &place.node)? {
         return Err(io::Error::from(ErrorKind::AlreadyExists));
     }
-    disk::remove_all(rt, side)
+    clear_side(rt, place)
+}
+
+// Takes away a side folder, where there is one.
+fn clear_side(rt: &(impl Files + AllocGlobal), place: &Place) -> io::Result<()> {
+    if !disk::is_there(rt, &place.side)? {
+        return Ok(());
+    }
+    disk::remove_all(rt, &place.side)
 }
 
 pub fn make_dir(
@@ -100,7 +108,7 @@ pub fn make_dir(
     path: &TreePath,
 ) -> Result<(), TreeError> {
     let place = layout.place(path)?;
-    clear(rt, &place.node, &place.side).map_err(cut_off)?;
+    clear(rt, &place).map_err(cut_off)?;
     disk::make_dir(rt, &place.node).map_err(cut_off)
 }
 
@@ -110,7 +118,7 @@ pub fn create(
     path: &TreePath,
 ) -> Result<(), TreeError> {
     let place = layout.place(path)?;
-    clear(rt, &place.node, &place.side).map_err(cut_off)?;
+    clear(rt, &place).map_err(cut_off)?;
     disk::make_file(rt, &place.node).map_err(cut_off)
 }
 
@@ -121,7 +129,7 @@ pub fn remove_file(
 ) -> Result<(), TreeError> {
     let place = layout.place(path)?;
     fs::remove_file(rt, &place.node).map_err(cut_off)?;
-    gone(rt, &place.node, &place.side).map_err(cut_off)
+    gone(rt, &place).map_err(cut_off)
 }
 
 pub fn remove_dir(
@@ -131,13 +139,13 @@ pub fn remove_dir(
 ) -> Result<(), TreeError> {
     let place = layout.place(path)?;
     fs::remove_dir(rt, &place.node).map_err(cut_off)?;
-    gone(rt, &place.node, &place.side).map_err(cut_off)
+    gone(rt, &place).map_err(cut_off)
 }
 
 // The name went; now what the node has beside it.
-fn gone(rt: &(impl Files + AllocGlobal), node: &str, side: &str) -> io::Result<()> {
-    disk::sync(rt, above(node))?;
-    disk::remove_all(rt, side)
+fn gone(rt: &(impl Files + AllocGlobal), place: &Place) -> io::Result<()> {
+    disk::sync_name(rt, &place.node)?;
+    clear_side(rt, place)
 }
 
 pub fn read_at(
@@ -172,16 +180,4 @@ pub fn set_len(
 ) -> Result<(), TreeError> {
     let node = layout.place(path)?.node;
     disk::set_len(rt, &node, len).map_err(cut_off)
-}
-
-/// Makes a node stable, with its name and its attributes' names.
-pub fn sync(rt: &impl Files, layout: &Layout, path: &TreePath) -> Result<(), TreeError> {
-    let node = layout.place(path)?.node;
-    let attrs = layout.attrs(path)?;
-    disk::sync(rt, &node).map_err(cut_off)?;
-    disk::sync(rt, above(&node)).map_err(cut_off)?;
-    if disk::look(rt, &attrs).map_err(cut_off)?.is_some() {
-        disk::sync(rt, &attrs).map_err(cut_off)?;
-    }
-    Ok(())
 }

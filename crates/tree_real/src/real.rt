@@ -2,10 +2,11 @@ ghost use Rattle.std.specs.Prelude.{◌≡◌, ◌≤◌, [], false, Ok, Err, if
 ghost use Rattle.tree_api.specs.declared.tree.TreeError.TheVariants.{Refused};
 ghost use Rattle.fault_count.specs.Counted.{one_more};
 ghost use Rattle.tree_api.specs.Counts.{Counts as TreeCounts};
-ghost use Rattle.tree_real.specs.Counts.{was_refused, counted, changed, looked, synced, untold};
+ghost use Rattle.tree_real.specs.Counts.{was_refused, opened, counted, changed, looked, synced, untold};
 
 use crate::layout::Layout;
-use crate::{attrs, disk, moves, nodes};
+use crate::mark::{Mark, settle};
+use crate::{disk, moves, nodes, side};
 use dev_edge::EdgeFault;
 use fault_count::FaultCount;
 use std::io;
@@ -18,11 +19,19 @@ use tree_api::{AttrName, Entry, Failed, FileTree, Stat, TreeError, TreePath};
 ///
 /// It keeps no snapshots: each call on one but `snapshots` is refused. A step may be a file's name on this system; one
 /// that may not, as `.` or a step of 300 bytes, is refused.
-#[derive(Drop)]
+///
+/// What a change has done is stable once it has answered, so a sync does nothing. After a refused change each change and
+/// each sync is refused, until the tree is opened anew: what is stable isn't known then.
+///
+/// One process at a time may use the tree below a root. It ends in order when it lets its tree go, unless a change was
+/// refused. When it doesn't, the next one syncs each file and folder first.
 pub struct RealTree<R: Files> {
     // The runtime that the files belong to.
     rt: R,
     layout: Layout,
+    mark: Mark,
+    // How many files and folders were synced when it was opened.
+    settled: u64,
     faults: FaultCount,
     syncs: FaultCount,
     looks: FaultCount,
@@ -36,18 +45,46 @@ impl<R: Files> Model for RealTree<R> {
 
     ghost Value = { Counts };
 
-    ghost view = { λ t. record { faults = t.faults; syncs = t.syncs; looks = t.looks; unsure = t.unsure } };
+    ghost view = { λ t. record { faults = t.faults; syncs = t.syncs; looks = t.looks; unsure = t.unsure; settled = t.settled } };
 
     ghost invariant = { λ t. (t.faults < 2 ^ 64) × (t.looks < 2 ^ 64) × (t.syncs < 2 ^ 64) };
 }
 
-// Makes the folders where they are missing, and ends a move that was cut off.
-fn open<R: Files + AllocGlobal>(rt: &R, layout: &Layout) -> io::Result<()> {
-    disk::make_dirs(rt, layout.root())?;
-    disk::make_dirs(rt, &layout.below("tree")?)?;
+impl<R: Files + Drop> Drop for RealTree<R> {
+    // The mark goes where no change was refused. Where that fails it stays, and the next user syncs all.
+    fn drop(self) {
+        let RealTree {
+            rt,
+            layout: _,
+            mut mark,
+            settled: _,
+            faults: _,
+            syncs: _,
+            looks: _,
+            unsure,
+        } = self;
+        if !unsure {
+            let _ = mark.lift(&rt);
+        }
+    }
+}
+
+// Makes the folders where they are missing. Where none of the tree's stands yet, those above may not be stable either.
+fn make_folders<R: Files + AllocGlobal>(rt: &R, layout: &Layout) -> io::Result<()> {
+    let tree = layout.below("tree")?;
+    if !disk::is_there(rt, &tree)? {
+        disk::settle_dirs(rt, layout.root())?;
+    }
+    disk::make_dirs(rt, &tree)?;
     disk::make_dirs(rt, &layout.below("side")?)?;
     disk::make_dirs(rt, &layout.below("snap")?)?;
-    moves::finish(rt, layout)
+    disk::sync(rt, layout.root())
+}
+
+// Makes the folders, and ends what an earlier process may have left.
+fn open<R: Files + AllocGlobal + Clone + Drop>(rt: &R, layout: &Layout) -> io::Result<u64> {
+    make_folders(rt, layout)?;
+    settle(rt, layout)
 }
 
 fn is_refused<T>(done: &Result<T, TreeError>) -> bool
@@ -57,17 +94,23 @@ fn is_refused<T>(done: &Result<T, TreeError>) -> bool
 }
 
 impl<R: Files + AllocGlobal + Clone + Drop> RealTree<R> {
-    /// The tree below this folder, which is made where it is missing.
+    /// The tree below this folder, which is made where it is missing. Where the last user didn't end in order, each of
+    /// its files and folders is synced first.
     pub fn at(rt: R, root: &str) -> Result<Self, EdgeFault>
-        ensures { IfOk result (λ t. t ≡ record { faults = 0; syncs = 0; looks = 0; unsure = false }) }
+        ensures { IfOk result (λ t. t ≡ opened t.settled) }
     {
         let Ok(layout) = Layout::new(rt.alloc(), root) else {
             return Err(EdgeFault::Memory);
         };
+        let Ok(mark) = Mark::new(&layout) else {
+            return Err(EdgeFault::Memory);
+        };
         match open(&rt, &layout) {
-            Ok(()) => Ok(RealTree {
+            Ok(settled) => Ok(RealTree {
                 rt,
                 layout,
+                mark,
+                settled,
                 faults: FaultCount::new(),
                 syncs: FaultCount::new(),
                 looks: FaultCount::new(),
@@ -76,6 +119,24 @@ impl<R: Files + AllocGlobal + Clone + Drop> RealTree<R> {
             Err(error) if error.kind() == ErrorKind::OutOfMemory => Err(EdgeFault::Memory),
             Err(_) => Err(EdgeFault::Outside),
         }
+    }
+
+    /// How many files and folders were synced when it was opened, since the last user hadn't ended in order.
+    pub fn settled(&self) -> u64
+        ensures { result ≡ self.now.settled }
+    {
+        self.settled
+    }
+
+    // Before a change: none follows on one that was refused, and the mark stands.
+    fn ready(&mut self) -> Result<(), TreeError>
+        ensures same { self.new ≡ self.old }
+        ensures unsure { IsTrue self.old.unsure → result ≡ Err Refused }
+    {
+        if self.unsure {
+            return Err(TreeError::Refused);
+        }
+        self.mark.set(&self.rt).map_err(nodes::cut_off)
     }
 
     // Counts a fault where this was refused.
@@ -110,6 +171,18 @@ impl<R: Files + AllocGlobal + Clone + Drop> RealTree<R> {
         self.unsure = self.unsure || is_refused(&done);
         self.counted(done)
     }
+
+    // What each change has synced is stable, unless one was refused.
+    fn synced(&mut self) -> Result<(), TreeError>
+        ensures counts { TreeCounts (IsErrOf result Refused) 0 0 (untold self.old) (untold self.new) }
+        ensures exact { self.new ≡ changed self.old (was_refused result) }
+        ensures unsure { result ≡ (if self.old.unsure then Err Refused else Ok tt) }
+    {
+        if self.unsure {
+            return self.changed(Err(TreeError::Refused));
+        }
+        Ok(())
+    }
 }
 
 impl<R: Files + AllocGlobal + Clone + Drop> FileTree for RealTree<R> {
@@ -138,7 +211,11 @@ impl<R: Files + AllocGlobal + Clone + Drop> FileTree for RealTree<R> {
     fn make_dir(&mut self, path: &TreePath) -> Result<(), TreeError>
         ensures counts { TreeCounts (IsErrOf result Refused) 0 0 (untold self.old) (untold self.new) }
         ensures exact { self.new ≡ changed self.old (was_refused result) }
+        ensures unsure { IsTrue self.old.unsure → result ≡ Err Refused }
     {
+        if let Err(fault) = self.ready() {
+            return self.changed(Err(fault));
+        }
         let done = nodes::make_dir(&self.rt, &self.layout, path);
         self.changed(done)
     }
@@ -146,7 +223,11 @@ impl<R: Files + AllocGlobal + Clone + Drop> FileTree for RealTree<R> {
     fn create(&mut self, path: &TreePath) -> Result<(), TreeError>
         ensures counts { TreeCounts (IsErrOf result Refused) 0 0 (untold self.old) (untold self.new) }
         ensures exact { self.new ≡ changed self.old (was_refused result) }
+        ensures unsure { IsTrue self.old.unsure → result ≡ Err Refused }
     {
+        if let Err(fault) = self.ready() {
+            return self.changed(Err(fault));
+        }
         let done = nodes::create(&self.rt, &self.layout, path);
         self.changed(done)
     }
@@ -154,7 +235,11 @@ impl<R: Files + AllocGlobal + Clone + Drop> FileTree for RealTree<R> {
     fn remove_file(&mut self, path: &TreePath) -> Result<(), TreeError>
         ensures counts { TreeCounts (IsErrOf result Refused) 0 0 (untold self.old) (untold self.new) }
         ensures exact { self.new ≡ changed self.old (was_refused result) }
+        ensures unsure { IsTrue self.old.unsure → result ≡ Err Refused }
     {
+        if let Err(fault) = self.ready() {
+            return self.changed(Err(fault));
+        }
         let done = nodes::remove_file(&self.rt, &self.layout, path);
         self.changed(done)
     }
@@ -162,7 +247,11 @@ impl<R: Files + AllocGlobal + Clone + Drop> FileTree for RealTree<R> {
     fn remove_dir(&mut self, path: &TreePath) -> Result<(), TreeError>
         ensures counts { TreeCounts (IsErrOf result Refused) 0 0 (untold self.old) (untold self.new) }
         ensures exact { self.new ≡ changed self.old (was_refused result) }
+        ensures unsure { IsTrue self.old.unsure → result ≡ Err Refused }
     {
+        if let Err(fault) = self.ready() {
+            return self.changed(Err(fault));
+        }
         let done = nodes::remove_dir(&self.rt, &self.layout, path);
         self.changed(done)
     }
@@ -170,7 +259,11 @@ impl<R: Files + AllocGlobal + Clone + Drop> FileTree for RealTree<R> {
     fn rename(&mut self, from: &TreePath, to: &TreePath) -> Result<(), TreeError>
         ensures counts { TreeCounts (IsErrOf result Refused) 0 0 (untold self.old) (untold self.new) }
         ensures exact { self.new ≡ changed self.old (was_refused result) }
+        ensures unsure { IsTrue self.old.unsure → result ≡ Err Refused }
     {
+        if let Err(fault) = self.ready() {
+            return self.changed(Err(fault));
+        }
         let done = moves::rename(&self.rt, &self.layout, from, to);
         self.changed(done)
     }
@@ -187,7 +280,11 @@ impl<R: Files + AllocGlobal + Clone + Drop> FileTree for RealTree<R> {
     fn write_at(&mut self, path: &TreePath, at: u64, bytes: &[u8]) -> Result<(), TreeError>
         ensures counts { TreeCounts (IsErrOf result Refused) 0 0 (untold self.old) (untold self.new) }
         ensures exact { self.new ≡ changed self.old (was_refused result) }
+        ensures unsure { IsTrue self.old.unsure → result ≡ Err Refused }
     {
+        if let Err(fault) = self.ready() {
+            return self.changed(Err(fault));
+        }
         let done = nodes::write_at(&self.rt, &self.layout, path, at, bytes);
         self.changed(done)
     }
@@ -195,7 +292,11 @@ impl<R: Files + AllocGlobal + Clone + Drop> FileTree for RealTree<R> {
     fn set_len(&mut self, path: &TreePath, len: u64) -> Result<(), TreeError>
         ensures counts { TreeCounts (IsErrOf result Refused) 0 0 (untold self.old) (untold self.new) }
         ensures exact { self.new ≡ changed self.old (was_refused result) }
+        ensures unsure { IsTrue self.old.unsure → result ≡ Err Refused }
     {
+        if let Err(fault) = self.ready() {
+            return self.changed(Err(fault));
+        }
         let done = nodes::set_len(&self.rt, &self.layout, path, len);
         self.changed(done)
     }
@@ -204,23 +305,31 @@ impl<R: Files + AllocGlobal + Clone + Drop> FileTree for RealTree<R> {
         ensures counts { TreeCounts (IsErrOf result Refused) 0 0 (untold self.old) (untold self.new) }
         ensures exact { self.new ≡ counted self.old (was_refused result) }
     {
-        let done = attrs::attr(&self.rt, &self.layout, path, name);
+        let done = side::attr(&self.rt, &self.layout, path, name);
         self.counted(done)
     }
 
     fn set_attr(&mut self, path: &TreePath, name: &[u8], value: &[u8]) -> Result<(), TreeError>
         ensures counts { TreeCounts (IsErrOf result Refused) 0 0 (untold self.old) (untold self.new) }
         ensures exact { self.new ≡ changed self.old (was_refused result) }
+        ensures unsure { IsTrue self.old.unsure → result ≡ Err Refused }
     {
-        let done = attrs::set_attr(&self.rt, &self.layout, path, name, value);
+        if let Err(fault) = self.ready() {
+            return self.changed(Err(fault));
+        }
+        let done = side::set_attr(&self.rt, &self.layout, path, name, value);
         self.changed(done)
     }
 
     fn remove_attr(&mut self, path: &TreePath, name: &[u8]) -> Result<(), TreeError>
         ensures counts { TreeCounts (IsErrOf result Refused) 0 0 (untold self.old) (untold self.new) }
         ensures exact { self.new ≡ changed self.old (was_refused result) }
+        ensures unsure { IsTrue self.old.unsure → result ≡ Err Refused }
     {
-        let done = attrs::remove_attr(&self.rt, &self.layout, path, name);
+        if let Err(fault) = self.ready() {
+            return self.changed(Err(fault));
+        }
+        let done = side::remove_attr(&self.rt, &self.layout, path, name);
         self.changed(done)
     }
 
@@ -228,21 +337,16 @@ impl<R: Files + AllocGlobal + Clone + Drop> FileTree for RealTree<R> {
         ensures counts { TreeCounts (IsErrOf result Refused) 0 0 (untold self.old) (untold self.new) }
         ensures exact { self.new ≡ counted self.old (was_refused result) }
     {
-        let done = attrs::names(&self.rt, &self.layout, path);
+        let done = side::names(&self.rt, &self.layout, path);
         self.counted(done)
     }
 
     fn sync_file(&mut self, path: &TreePath) -> Result<(), TreeError>
         ensures counts { TreeCounts (IsErrOf result Refused) 0 0 (untold self.old) (untold self.new) }
         ensures exact { self.new ≡ changed self.old (was_refused result) }
-        ensures unsure { IsTrue self.old.unsure → result ≡ Err Refused }
+        ensures unsure { result ≡ (if self.old.unsure then Err Refused else Ok tt) }
     {
-        let done = if self.unsure {
-            Err(TreeError::Refused)
-        } else {
-            nodes::sync(&self.rt, &self.layout, path)
-        };
-        self.changed(done)
+        self.synced()
     }
 
     fn sync_names(&mut self) -> Result<(), TreeError>
@@ -250,10 +354,7 @@ impl<R: Files + AllocGlobal + Clone + Drop> FileTree for RealTree<R> {
         ensures exact { self.new ≡ changed self.old (was_refused result) }
         ensures unsure { result ≡ (if self.old.unsure then Err Refused else Ok tt) }
     {
-        if self.unsure {
-            return self.changed(Err(TreeError::Refused));
-        }
-        Ok(())
+        self.synced()
     }
 
     fn sync_all(&mut self) -> Result<(), Failed>

@@ -278,11 +278,30 @@ fn attributes_move_with_their_node(rt: HostRuntime) {
     assert!(rt; is_attr(&names, 0, &long[..100]));
     assert!(rt; is_attr(&names, 1, &long));
     assert!(rt; is_attr(&names, 2, b"guard"));
-    remove_attr(&rt, &mut tree, "two/c", &long);
-    remove_attr(&rt, &mut tree, "two/c", b"none");
-    assert!(rt; !has_attr(&rt, &mut tree, "two/c", &long, b"long"));
-    assert_eq!(rt; attrs(&rt, &mut tree, "two/c").len(), 2);
+    rename(&rt, &mut tree, "two/c", "c");
+    assert!(rt; has_attr(&rt, &mut tree, "c", &long, b"long"));
+    assert_eq!(rt; attrs(&rt, &mut tree, "c").len(), 3);
+    remove_attr(&rt, &mut tree, "c", &long);
+    remove_attr(&rt, &mut tree, "c", b"none");
+    assert!(rt; !has_attr(&rt, &mut tree, "c", &long, b"long"));
+    assert_eq!(rt; attrs(&rt, &mut tree, "c").len(), 2);
     remove_all(&rt, "attributes");
+}
+
+// A file has its own attributes alone at a free place too, whatever side folder was left there.
+#[test]
+fn attributes_move_to_a_free_place(rt: HostRuntime) {
+    let mut tree = open(&rt, "free");
+    create(&rt, &mut tree, "one");
+    set_attr(&rt, &mut tree, "one", b"a", b"1");
+    assert!(rt; fs::create_dir(&rt, "free/side/c/two").is_ok());
+    assert!(rt; fs::write(&rt, "free/side/c/two/_62", "2").is_ok());
+    rename(&rt, &mut tree, "one", "two");
+    assert!(rt; has_attr(&rt, &mut tree, "two", b"a", b"1"));
+    assert_eq!(rt; attrs(&rt, &mut tree, "two").len(), 1);
+    create(&rt, &mut tree, "one");
+    assert!(rt; attrs(&rt, &mut tree, "one").is_empty());
+    remove_all(&rt, "free");
 }
 
 // A file that takes another's place has its own attributes alone, and a new node has none.
@@ -316,20 +335,20 @@ fn a_move_cut_off_is_ended(rt: HostRuntime) {
     create(&rt, &mut tree, "one");
     set_attr(&rt, &mut tree, "one", b"a", b"1");
     // The name had not moved.
-    note(&rt, "/tree/one\n/side/c/one\n/side/c/two\n");
+    note(&rt, "/tree/one\n/tree/two\n/side/c/one\n/side/c/two\n");
     let mut tree = open(&rt, "moved");
     assert!(rt; has_attr(&rt, &mut tree, "one", b"a", b"1"));
     // It had.
-    note(&rt, "/tree/one\n/side/c/one\n/side/c/two\n");
+    note(&rt, "/tree/one\n/tree/two\n/side/c/one\n/side/c/two\n");
     assert!(rt; fs::rename(&rt, "moved/tree/one", "moved/tree/two").is_ok());
     let mut tree = open(&rt, "moved");
     assert!(rt; has_attr(&rt, &mut tree, "two", b"a", b"1"));
     // The side folder had moved too.
-    note(&rt, "/tree/one\n/side/c/one\n/side/c/two\n");
+    note(&rt, "/tree/one\n/tree/two\n/side/c/one\n/side/c/two\n");
     let mut tree = open(&rt, "moved");
     assert!(rt; has_attr(&rt, &mut tree, "two", b"a", b"1"));
     // There was none, and the one that was in the way had not gone.
-    note(&rt, "/tree/one\n\n/side/c/two\n");
+    note(&rt, "/tree/one\n/tree/two\n\n/side/c/two\n");
     let mut tree = open(&rt, "moved");
     assert!(rt; attrs(&rt, &mut tree, "two").is_empty());
     remove_all(&rt, "moved");
@@ -369,7 +388,46 @@ fn syncs_nothing_after_a_refused_change(rt: HostRuntime) {
     assert_eq!(rt; tree.sync_file(&path(&rt, "f")), Err(TreeError::Refused));
     assert_eq!(rt; tree.sync_names(), Err(TreeError::Refused));
     assert_eq!(rt; tree.sync_all(), Err(Failed));
+    assert_eq!(rt; tree.create(&path(&rt, "g")), Err(TreeError::Refused));
+    assert_eq!(rt; len(&rt, &mut tree, "g"), None);
     let mut tree = open(&rt, "unsure");
     assert_eq!(rt; tree.sync_all(), Ok(()));
+    create(&rt, &mut tree, "g");
     remove_all(&rt, "unsure");
+}
+
+// Opens a tree, makes an empty directory in it, and ends in order. Answers how many nodes and side folders it synced first.
+fn settled_before(rt: &(impl Abort + Files + AllocGlobal + Clone + Drop), steps: &str) -> u64 {
+    let mut tree = open(rt, "killed");
+    make_dir(rt, &mut tree, steps);
+    tree.settled()
+}
+
+// While the mark of a process stands that made changes, the next one syncs all: three in `tree`, six in `side`.
+#[test]
+fn what_a_killed_process_left_is_synced(rt: HostRuntime) {
+    let mut tree = open(&rt, "killed");
+    make_dir(&rt, &mut tree, "one");
+    create(&rt, &mut tree, "one/f");
+    set_attr(&rt, &mut tree, "one/f", b"a", b"1");
+    assert_eq!(rt; tree.settled(), 0);
+    assert_eq!(rt; settled_before(&rt, "two"), 9);
+    assert_eq!(rt; settled_before(&rt, "three"), 0);
+    assert!(rt; fs::write(&rt, "killed/dirty", "").is_ok());
+    assert_eq!(rt; settled_before(&rt, "four"), 11);
+    remove_all(&rt, "killed");
+}
+
+// A closed tree reads the same elsewhere.
+#[test]
+fn a_tree_moves_as_a_whole(rt: HostRuntime) {
+    let mut tree = open(&rt, "here");
+    create(&rt, &mut tree, "f");
+    write(&rt, &mut tree, "f", 0, b"abcd");
+    set_attr(&rt, &mut tree, "f", b"a", b"1");
+    assert!(rt; fs::rename(&rt, "here", "elsewhere").is_ok());
+    let mut tree = open(&rt, "elsewhere");
+    assert_eq!(rt; len(&rt, &mut tree, "f"), Some(4));
+    assert!(rt; has_attr(&rt, &mut tree, "f", b"a", b"1"));
+    remove_all(&rt, "elsewhere");
 }

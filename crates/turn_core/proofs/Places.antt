@@ -80,7 +80,7 @@ meet_back (f ∷ front) groups is =
     let two = both_false (among groups f) (meet front groups) is in
     meet_more f front groups two.0 (meet_back front groups two.1)
 
-same_is : (g h : GroupId) → same g h ≡ true → g ≡ h
+pub same_is : (g h : GroupId) → same g h ≡ true → g ≡ h
 same_is Meta Meta is = refl
 same_is Meta (Pg pool seed) is = absurd (not_both false is refl)
 same_is (Pg pool seed) Meta is = absurd (not_both false is refl)

@@ -1,4 +1,4 @@
-use Rattle.ring_images.specs.Crash.{left_all}
+use Rattle.ring_images.proofs.Crash.{left_all}
 use Rattle.ring_images.proofs.left_law.Goals as goal
 
 pub returns : goal.returns

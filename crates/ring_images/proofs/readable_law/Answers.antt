@@ -1,7 +1,7 @@
 use Rattle.std.proofs.Common.{arith, refl}
-use Rattle.ring_images.specs.Crash.{is_read}
-use Rattle.ring_images.specs.Linear.{read_once}
-use Rattle.ring_images.specs.Headers.{head_of_is}
+use Rattle.ring_images.proofs.Crash.{is_read}
+use Rattle.ring_images.proofs.Linear.{read_once}
+use Rattle.ring_images.proofs.Headers.{head_of_is}
 use Rattle.ring_images.proofs.readable_law.Goals as goal
 
 pub returns-clause-read : goal.returns-clause-read

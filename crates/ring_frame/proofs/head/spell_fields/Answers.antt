@@ -2,7 +2,8 @@ use Rattle.std.proofs.Common.{replicate, refl, ap, ◌∙◌, arith}
 use Rattle.byteorder.specs.Numbers.{length-bytes_high_first}
 use Rattle.byteorder.specs.Endian.{big_bytes}
 use Rattle.ring_frame.specs.Heads.{head_bytes, ring_magic}
-use Rattle.ring_frame.specs.Put.{put, seven_puts}
+use Rattle.ring_frame.specs.Put.{put}
+use Rattle.ring_frame.proofs.Put.{seven_puts}
 use Rattle.ring_frame.proofs.head.spell_fields.Goals as goal
 
 pub returns : goal.returns

@@ -1,6 +1,6 @@
 use Rattle.std.proofs.Common.{◌≡◌, List, ℕ, take, drop}
 use Rattle.byteorder.specs.Endian.{big_number}
-use Rattle.ring_frame.specs.HeadFacts.{head_made}
+use Rattle.ring_frame.proofs.HeadFacts.{head_made}
 use Rattle.ring_frame.proofs.head.told_head.Goals as goal
 
 pub returns : goal.returns

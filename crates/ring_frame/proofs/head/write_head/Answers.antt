@@ -1,8 +1,9 @@
 use Rattle.std.proofs.Common.{◌≡◌, List, ℕ, length, replicate, refl, ap, ◌∙◌, arith}
 use Rattle.sha1.specs.Sha1.{sha1}
 use Rattle.ring_frame.specs.Heads.{head_bytes, head_block}
-use Rattle.ring_frame.specs.Facts.{length-sha1}
-use Rattle.ring_frame.specs.Put.{put, three_puts}
+use Rattle.ring_frame.proofs.Facts.{length-sha1}
+use Rattle.ring_frame.specs.Put.{put}
+use Rattle.ring_frame.proofs.Put.{three_puts}
 use Rattle.ring_frame.proofs.head.write_head.Goals as goal
 
 pub returns : goal.returns

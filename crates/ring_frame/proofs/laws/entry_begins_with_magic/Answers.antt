@@ -1,4 +1,4 @@
-use Rattle.ring_frame.specs.Facts.{entry_magic_first}
+use Rattle.ring_frame.proofs.Facts.{entry_magic_first}
 use Rattle.ring_frame.proofs.laws.entry_begins_with_magic.Goals as goal
 
 pub returns : goal.returns

@@ -1,5 +1,5 @@
 use Rattle.std.proofs.Common.{arith}
-use Rattle.ring_frame.specs.Facts.{length-spelled}
+use Rattle.ring_frame.proofs.Facts.{length-spelled}
 use Rattle.ring_frame.proofs.laws.entry_fills_its_blocks.Goals as goal
 
 pub returns : goal.returns

@@ -1,5 +1,5 @@
 use Rattle.std.proofs.Common.{arith}
-use Rattle.ring_frame.specs.Facts.{entry-spelled}
+use Rattle.ring_frame.proofs.Facts.{entry-spelled}
 use Rattle.ring_frame.proofs.laws.entry_is_read_back.Goals as goal
 
 pub returns : goal.returns

@@ -1,4 +1,4 @@
-use Rattle.ring_frame.specs.Facts.{entry_same}
+use Rattle.ring_frame.proofs.Facts.{entry_same}
 use Rattle.ring_frame.proofs.laws.entry_stands_alone.Goals as goal
 
 pub returns : goal.returns

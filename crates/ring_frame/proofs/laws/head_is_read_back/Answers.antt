@@ -1,4 +1,4 @@
-use Rattle.ring_frame.specs.HeadFacts.{head_read_back}
+use Rattle.ring_frame.proofs.HeadFacts.{head_read_back}
 use Rattle.ring_frame.proofs.laws.head_is_read_back.Goals as goal
 
 pub returns : goal.returns

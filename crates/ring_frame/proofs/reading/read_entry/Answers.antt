@@ -1,7 +1,7 @@
 use Rattle.std.proofs.Common.{rules, ◌≡◌, List, ℕ, ◌+◌, ◌-◌, sym, ap, ◌∙◌, take, drop, arith}
 use Rattle.std.specs.Prelude.{Some}
 use Rattle.ring_frame.specs.Frame.{Entry, told_length}
-use Rattle.ring_frame.specs.Facts.{need-room, made_same}
+use Rattle.ring_frame.proofs.Facts.{need-room, made_same}
 use Rattle.ring_frame.proofs.Seals.{unsealed, read_room, read_sealed}
 use Rattle.ring_frame.proofs.reading.read_entry.Goals as goal
 

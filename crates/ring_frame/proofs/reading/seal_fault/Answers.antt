@@ -1,7 +1,7 @@
 use Rattle.std.proofs.Common.{◌≡◌, List, ℕ, ◌+◌, ◌-◌, refl, sym, ap, ◌∙◌, length, length-take, take, drop, ◌++◌, arith}
 use Rattle.sha1.specs.Sha1.{sha1}
 use Rattle.ring_frame.specs.Frame.{need, told_length}
-use Rattle.ring_frame.specs.Facts.{need-room, length-sha1}
+use Rattle.ring_frame.proofs.Facts.{need-room, length-sha1}
 use Rattle.ring_frame.proofs.Seals.{seal_short, seal_digest, seal_footer, seal_whole}
 use Rattle.ring_frame.proofs.reading.seal_fault.Goals as goal
 

@@ -1,8 +1,8 @@
 use Rattle.std.proofs.Common.{◌≡◌, List, ℕ, ◌+◌, ◌-◌, ◌≤◌, ◌++◌, length, replicate, refl, ap, ◌∙◌, arith}
 use Rattle.std.proofs.lemmas.List.{length-replicate}
 use Rattle.ring_frame.specs.Frame.{need, front, spelled, Entry}
-use Rattle.ring_frame.specs.Facts.{length-front, need-room}
-use Rattle.ring_frame.specs.Put.{four_puts}
+use Rattle.ring_frame.proofs.Facts.{length-front, need-room}
+use Rattle.ring_frame.proofs.Put.{four_puts}
 use Rattle.ring_frame.proofs.spelling.seal.Goals as goal
 
 pub overflow_sub-foot : goal.overflow_sub-foot

@@ -1,8 +1,9 @@
 use Rattle.std.proofs.Common.{◌≡◌, List, ℕ, ◌++◌, length, refl, ap, ◌∙◌, arith}
 use Rattle.sha1.specs.Sha1.{sha1}
 use Rattle.ring_frame.specs.Frame.{Entry, head, front}
-use Rattle.ring_frame.specs.Facts.{length-sha1, length-head}
-use Rattle.ring_frame.specs.Put.{put, two_puts}
+use Rattle.ring_frame.proofs.Facts.{length-sha1, length-head}
+use Rattle.ring_frame.specs.Put.{put}
+use Rattle.ring_frame.proofs.Put.{two_puts}
 use Rattle.ring_frame.proofs.spelling.spell_front.Goals as goal
 
 pub returns : goal.returns

@@ -2,7 +2,8 @@ use Rattle.std.proofs.Common.{take, length, replicate, refl, ap, ◌∙◌, leng
 use Rattle.byteorder.specs.Numbers.{length-bytes_high_first}
 use Rattle.byteorder.specs.Endian.{big_bytes}
 use Rattle.ring_frame.specs.Frame.{head, entry_magic}
-use Rattle.ring_frame.specs.Put.{put, six_puts}
+use Rattle.ring_frame.specs.Put.{put}
+use Rattle.ring_frame.proofs.Put.{six_puts}
 use Rattle.ring_frame.proofs.spelling.spell_head.Goals as goal
 
 pub returns : goal.returns

@@ -1,6 +1,6 @@
 use Rattle.std.proofs.Common.{rules, ◌≢◌, ◌∙◌, ◌+◌, ℕ, take, drop, refl, sym, ap, arith}
 use Rattle.dev_api.specs.Disk.{Disk, Goes, wrote}
-use Rattle.dev_api.specs.Run.{keeps_none, on_ok_map}
+use Rattle.dev_api.proofs.Run.{keeps_none, on_ok_map}
 use Rattle.ring_frame.specs.Frame.{entry_magic}
 use Rattle.ring_images.specs.Turned.{turned}
 use Rattle.ring_images.specs.Held.{Leaves}

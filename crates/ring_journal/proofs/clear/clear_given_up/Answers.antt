@@ -1,5 +1,5 @@
 use Rattle.std.proofs.Common.{rules}
-use Rattle.dev_api.specs.Run.{keeps_then}
+use Rattle.dev_api.proofs.Run.{keeps_then}
 use Rattle.ring_images.specs.Held.{Leaves}
 use Rattle.ring_journal.proofs.Clears.{sync_keeps, sync_goes}
 use Rattle.ring_journal.proofs.clear.clear_given_up.Goals as goal

@@ -2,7 +2,7 @@ use Rattle.std.proofs.Common.{rules, ◌≡◌, ℕ, ◌+◌, length, take, drop
 use Rattle.std.proofs.lemmas.List.{places}
 use Rattle.ring_images.specs.Turned.{turned}
 use Rattle.dev_api.specs.Disk.{Disk}
-use Rattle.dev_api.specs.Run.{keeps_same, keeps_then}
+use Rattle.dev_api.proofs.Run.{keeps_same, keeps_then}
 use Rattle.ring_images.specs.Held.{Leaves}
 use Rattle.ring_images.specs.Cleaning.{Cleared}
 use Rattle.ring_journal.specs.Swept.{Sweeps}

@@ -1,6 +1,6 @@
 use Rattle.std.proofs.Common.{rules, ◌≡◌, ℕ, ◌+◌, ◌-◌, ◌*◌, ◌≤◌, length, take, drop, refl, sym, ap, subst, arith, ◌∙◌}
 use Rattle.dev_api.specs.Disk.{Disk}
-use Rattle.dev_api.specs.Run.{keeps_none, keeps_then}
+use Rattle.dev_api.proofs.Run.{keeps_none, keeps_then}
 use Rattle.ring_images.specs.Turned.{turned}
 use Rattle.ring_images.specs.Held.{Leaves}
 use Rattle.ring_images.specs.Cleaning.{Cleared}

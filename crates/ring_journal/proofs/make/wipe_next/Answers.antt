@@ -1,7 +1,7 @@
 use Rattle.std.proofs.Common.{rules, ◌≡◌, ◌+◌, ◌-◌, ◌++◌, ◌≤◌, ℕ, List, length, take, replicate, ap, subst, sym, ◌∙◌, arith}
 use Rattle.std.proofs.lemmas.List.{take-replicate, length-replicate}
 use Rattle.dev_api.specs.Disk.{Disk, put}
-use Rattle.dev_api.specs.Run.{keeps_write}
+use Rattle.dev_api.proofs.Run.{keeps_write}
 use Rattle.ring_journal.specs.Making.{WrittenIn}
 use Rattle.ring_journal.proofs.Wipes.{since_wrote, pending_after}
 use Rattle.ring_journal.proofs.Makes.{written_self, written_wrote, written_part, zeros_more}

@@ -1,6 +1,7 @@
 use Rattle.std.proofs.Common.{rules, ◌≡◌, ℕ, ◌+◌, List, subst}
 use Rattle.dev_api.specs.Disk.{Disk}
-use Rattle.dev_api.specs.Run.{Keeps, keeps_sync}
+use Rattle.dev_api.specs.Run.{Keeps}
+use Rattle.dev_api.proofs.Run.{keeps_sync}
 use Rattle.ring_frame.specs.Frame.{Entry}
 use Rattle.ring_images.specs.Held.{readable, LeavesEither}
 use Rattle.ring_journal.specs.State.{State, NowHolds, GoesOn, from, head_from, trimmed_head}

@@ -1,0 +1,14 @@
+pub mod Append
+pub mod Begun
+pub mod Cleaning
+pub mod Clearing
+pub mod Crash
+pub mod HeadStep
+pub mod Headers
+pub mod Linear
+pub mod Made
+pub mod Rotate
+pub mod Silent
+pub mod Standing
+pub mod Telling
+pub mod Turned

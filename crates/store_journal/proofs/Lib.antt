@@ -1,0 +1,4 @@
+mod Faults
+mod Enters
+mod GivesUp
+mod Reopens

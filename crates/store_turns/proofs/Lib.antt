@@ -1,0 +1,3 @@
+mod Stages
+mod Next
+pub mod Redone

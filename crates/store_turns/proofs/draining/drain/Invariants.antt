@@ -1,0 +1,23 @@
+use Rattle.std.proofs.Common.{◌≡◌, ◌≤◌, ◌+◌, ℕ, List}
+use Rattle.ring_journal.specs.State.{Holds}
+use Rattle.store_history.specs.History.{History}
+use Rattle.store_turns.specs.State.{Fits, Holding}
+use Rattle.store_turns.specs.Waiting.{AreDue}
+use Rattle.store_turns.proofs.draining.drain.Given as goal
+
+abbrev pub invariant-loop-one : goal.invariant-loop-one
+invariant-loop-one g l = record {
+  counts : Fits l.core l.ring;
+  number : l.core.journalled ≡ l.fn.core.journalled + l.one-index;
+  extent : (g.D.Device.state l.dev).size ≡ l.ring.head.size;
+  size : l.ring.head.size ≡ l.fn.ring.head.size;
+  told : g.S.Side.tells l.side → g.S.Side.tells l.fn.side;
+  honest : g.D.Device.tells l.dev → g.D.Device.tells l.fn.dev;
+  laid : g.S.Side.tells l.side → g.S.Side.laid (g.S.Side.disk l.side).tree;
+  holds : g.D.Device.tells l.dev → Holds l.ring (g.D.Device.state l.dev).disk;
+  tree_faults : (g.S.Side.disk l.fn.side).faults ≤ (g.S.Side.disk l.side).faults;
+  device_faults : (g.D.Device.state l.fn.dev).faults ≤ (g.D.Device.state l.dev).faults;
+  kept : g.S.Side.tells l.side → g.D.Device.tells l.dev → (fsid : List ℕ) (h : History) → Holding g.S.Side.image g.S.Side.reads fsid h l.fn.core (g.S.Side.disk l.fn.side) l.fn.ring (g.D.Device.state l.fn.dev).disk
+      → AreDue h l.fn.core.journalled l.waiting
+      → Holding g.S.Side.image g.S.Side.reads fsid h l.core (g.S.Side.disk l.side) l.ring (g.D.Device.state l.dev).disk;
+}

@@ -1,0 +1,5 @@
+pub mod Fault
+pub mod Theory
+pub mod Waiting
+pub mod State
+pub mod Calls

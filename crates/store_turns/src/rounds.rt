@@ -1,0 +1,103 @@
+// One transaction, and room for it.
+ghost use Rattle.std.specs.Prelude.{◌≡◌, ℕ, ◌+◌, ◌-◌, ◌<◌, ◌≤◌, ◌^◌, List, length, OnOk, IsErrOf};
+ghost use Rattle.fault_count.specs.Counted.{Counted};
+ghost use Rattle.ring_frame.specs.Frame.{need as need_of};
+ghost use Rattle.ring_journal.specs.State.{Holds, free_of};
+ghost use Rattle.store_history.specs.History.{History};
+ghost use Rattle.store_history.specs.Pair.{PairsStand};
+ghost use Rattle.store_turns.specs.State.{Fits, Holding};
+ghost use Rattle.store_turns.specs.Waiting.{IsDue};
+
+use crate::committing::commit;
+use crate::numbers::{How, Numbers, StoreFault};
+use crate::side::Side;
+use dev_api::Device;
+use fs_model::Op;
+use ring_frame::need;
+use ring_journal::Ring;
+use std::alloc::Global;
+use store_history::journal_law;
+use store_journal::enter;
+
+/// Where the journal has not so much room, what was applied is committed, and all room is free.
+pub fn make_room<S: Side, D: Device>(
+    alloc: Global,
+    core: &mut Numbers,
+    side: &mut S,
+    ring: &mut Ring,
+    dev: &mut D,
+    room: u64,
+) -> Result<(), StoreFault>
+    requires counts { Fits core.old ring.old }
+    requires extent { (D.state dev.old).size ≡ ring.old.head.size }
+    requires laid { S.tells side.old → S.laid (S.disk side.old).tree }
+    requires holds { D.tells dev.old → Holds ring.old (D.state dev.old).disk }
+    requires fits { room ≤ ring.old.head.size - 8192 }
+    ensures counts { OnOk result (Fits core.new ring.new) }
+    ensures room { OnOk result (room ≤ free_of ring.new) }
+    ensures size { OnOk result (ring.new.head.size ≡ ring.old.head.size) }
+    ensures same { core.new.journalled ≡ core.old.journalled }
+    ensures laid { S.tells side.new → S.laid (S.disk side.new).tree }
+    ensures holds { D.tells dev.new → OnOk result (Holds ring.new (D.state dev.new).disk) }
+    ensures exit { S.tells side.new → D.tells dev.new → (fsid : List ℕ) (h : History) → Holding S.image S.reads fsid h core.old (S.disk side.old) ring.old (D.state dev.old).disk
+        → PairsStand S.image fsid h core.new.journalled (S.disk side.new).may (D.state dev.new).disk }
+    ensures done { S.tells side.new → D.tells dev.new → (fsid : List ℕ) (h : History) → Holding S.image S.reads fsid h core.old (S.disk side.old) ring.old (D.state dev.old).disk
+        → OnOk result (Holding S.image S.reads fsid h core.new (S.disk side.new) ring.new (D.state dev.new).disk) }
+    ensures told { S.tells side.new → S.tells side.old }
+    ensures honest { D.tells dev.new → D.tells dev.old }
+    ensures extent { (D.state dev.new).size ≡ (D.state dev.old).size }
+    ensures tree { IsErrOf result StoreFault.Tree → Counted (S.disk side.old).faults (S.disk side.new).faults }
+    ensures device { IsErrOf result StoreFault.Device → Counted (D.state dev.old).faults (D.state dev.new).faults }
+    ensures tree_faults { (S.disk side.old).faults ≤ (S.disk side.new).faults }
+    ensures device_faults { (D.state dev.old).faults ≤ (D.state dev.new).faults }
+{
+    journal_law();
+    if room <= ring.free() {
+        return Ok(());
+    }
+    commit(alloc, core, side, ring, dev)
+}
+
+/// One transaction is journalled, synced and applied.
+pub fn round<S: Side, D: Device>(
+    alloc: Global,
+    core: &mut Numbers,
+    side: &mut S,
+    ring: &mut Ring,
+    dev: &mut D,
+    payload: &[u8],
+    ops: &[Op],
+) -> Result<(), StoreFault>
+    requires counts { Fits core.old ring.old }
+    requires small { core.old.journalled + 1 < 2 ^ 63 }
+    requires extent { (D.state dev.old).size ≡ ring.old.head.size }
+    requires laid { S.tells side.old → S.laid (S.disk side.old).tree }
+    requires holds { D.tells dev.old → Holds ring.old (D.state dev.old).disk }
+    requires short { length payload.now < 2 ^ 32 }
+    requires fits { need_of (length payload.now) ≤ ring.old.head.size - 8192 }
+    ensures counts { OnOk result (Fits core.new ring.new) }
+    ensures size { OnOk result (ring.new.head.size ≡ ring.old.head.size) }
+    ensures number { OnOk result (core.new.journalled ≡ core.old.journalled + 1) }
+    ensures grows { core.old.journalled ≤ core.new.journalled }
+    ensures laid { S.tells side.new → S.laid (S.disk side.new).tree }
+    ensures holds { D.tells dev.new → OnOk result (Holds ring.new (D.state dev.new).disk) }
+    ensures exit { S.tells side.new → D.tells dev.new → (fsid : List ℕ) (h : History) → Holding S.image S.reads fsid h core.old (S.disk side.old) ring.old (D.state dev.old).disk
+        → IsDue h core.old.journalled payload.now ops.now → PairsStand S.image fsid h core.new.journalled (S.disk side.new).may (D.state dev.new).disk }
+    ensures done { S.tells side.new → D.tells dev.new → (fsid : List ℕ) (h : History) → Holding S.image S.reads fsid h core.old (S.disk side.old) ring.old (D.state dev.old).disk
+        → IsDue h core.old.journalled payload.now ops.now → OnOk result (Holding S.image S.reads fsid h core.new (S.disk side.new) ring.new (D.state dev.new).disk) }
+    ensures told { S.tells side.new → S.tells side.old }
+    ensures honest { D.tells dev.new → D.tells dev.old }
+    ensures extent { (D.state dev.new).size ≡ (D.state dev.old).size }
+    ensures tree { IsErrOf result StoreFault.Tree → Counted (S.disk side.old).faults (S.disk side.new).faults }
+    ensures device { IsErrOf result StoreFault.Device → Counted (D.state dev.old).faults (D.state dev.new).faults }
+    ensures tree_faults { (S.disk side.old).faults ≤ (S.disk side.new).faults }
+    ensures device_faults { (D.state dev.old).faults ≤ (D.state dev.new).faults }
+{
+    journal_law();
+    make_room(alloc, core, side, ring, dev, need(payload.len() as u64))?;
+    let seq = core.journalled + 1;
+    enter(alloc, ring, dev, seq, payload)?;
+    side.apply(alloc, How::Live, seq, ops)?;
+    core.journalled = seq;
+    Ok(())
+}

@@ -1,0 +1,14 @@
+pub mod Carried
+pub mod Closed
+pub mod Copies
+pub mod Files
+pub mod Joining
+pub mod Law
+pub mod Names
+pub mod Next
+pub mod OneFile
+pub mod Only
+pub mod Stands
+pub mod Steps
+pub mod Trees
+pub mod Turns

@@ -1,0 +1,12 @@
+pub mod Closed
+pub mod Copies
+pub mod Edits
+pub mod Files
+pub mod Laws
+pub mod Names
+pub mod OneFile
+pub mod Shown
+pub mod Standing
+pub mod Stands
+pub mod Trees
+pub mod Turns
