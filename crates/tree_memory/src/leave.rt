@@ -23,7 +23,7 @@ impl MemoryTree {
     /// Choice 0 is the tree as it reads, choice 1 the oldest names, and of each node the oldest version. Any other one
     /// draws the names, and each length, byte and attribute that was changed, as old or as new, from a generator that
     /// starts at the choice: one number a change of names or of an attribute, and of bytes one for the length and then one
-    /// a byte. Where it is odd, what is new is taken.
+    /// a byte. Where it is 2^31 or more, what is new is taken.
     pub fn leave(&self, choice: u64, fail: Vec<u64>) -> Result<MemoryTree, AllocError>
         ensures image { IfOk result (λ m. (disk_of self.now).may (disk_of m).tree) }
         ensures stable { IfOk result (λ m. state_of m ≡ start (disk_of m).tree) }

@@ -27,14 +27,14 @@ impl Chooser {
         }
     }
 
-    /// Never, where the oldest is chosen, and else where the next number is odd.
+    /// Never, where the oldest is chosen, and else where the next number is 2^31 or more.
     pub fn takes(&mut self) -> bool
         ensures oldest { self.new.oldest ≡ self.old.oldest }
         ensures draws { self.new.draws ≡ next_state self.old.draws }
         ensures drawn { result ≡ takes self.old.oldest self.old.draws }
         ensures never { self.old.oldest ≡ true → result ≡ false }
     {
-        let drawn = self.draws.draw() % 2 == 1;
+        let drawn = self.draws.draw() >> 31 == 1;
         drawn && !self.oldest
     }
 
