@@ -25,14 +25,10 @@ first_or_past (suc n) r first is = inr (n, refl, omega (arith, is))
 
 pub gone_at : (c : Coll) (ops : List Op) (r : ℕ) → gone_in c ops ≡ suc r → (op : Op) × (slice_get ops r ≡ Some op) × (takes c op ≡ true)
 gone_at c [] r is = absurd (omega (arith, is))
-gone_at c (first ∷ ops) r is = by (first_or_past (gone_in c ops) r (takes c first) is)
-  where
-    by : ((gone_in c ops ≡ 0) × (r ≡ 0) × (takes c first ≡ true)) ⊎ ((n : ℕ) × (gone_in c ops ≡ suc n) × (r ≡ suc n))
-        → (op : Op) × (slice_get (first ∷ ops) r ≡ Some op) × (takes c op ≡ true)
-    by (inl (none, here, taken)) = (first, ap (λ (i : ℕ). slice_get (first ∷ ops) i) here, taken)
-    by (inr (n, later, place)) =
-        let found = gone_at c ops n later in
-        (found.0, ap (λ (i : ℕ). slice_get (first ∷ ops) i) place ∙ found.1, found.2)
+gone_at c (first ∷ ops) r is = ⊎_elim
+    (λ (none, here, taken). (first, ap (λ (i : ℕ). slice_get (first ∷ ops) i) here, taken))
+    (λ (n, later, place). let found = gone_at c ops n later in (found.0, ap (λ (i : ℕ). slice_get (first ∷ ops) i) place ∙ found.1, found.2))
+    (first_or_past (gone_in c ops) r (takes c first) is)
 
 past_most : (m : ℕ) (first : Bool) (k : ℕ) → one_past m first ≤ suc k → m ≤ k
 past_most zero first k le = omega arith

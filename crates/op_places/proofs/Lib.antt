@@ -4,5 +4,3 @@ pub mod Line
 pub mod Cells
 pub mod Shown
 pub mod Moving
-pub mod Edits
-pub mod Makes
