@@ -1,11 +1,10 @@
 -- Where one cell stands along a plain line, on which no copy is for good.
-use Rattle.std.proofs.Common.{◌≡◌, ◌⊎◌, inl, inr, ℕ, zero, suc, ◌<◌, ◌≤◌, List, length, map, false, refl, sym, ◌∙◌, ap, subst, arith, Option}
+use Rattle.std.proofs.Common.{◌≡◌, inl, inr, ℕ, zero, suc, ◌<◌, ◌≤◌, List, false, refl, sym, ◌∙◌, ap, subst, arith, Option}
 use Rattle.std.proofs.lemmas.List.{length-map}
 use Rattle.std.specs.FinMap as fin
 use Rattle.fs_model.specs.declared.op.Op.{Op}
 use Rattle.fs_model.specs.Objects.{Objects, Shelf, on_shelf}
-use Rattle.replay_laws.specs.Replay.{after, Source, act}
-use Rattle.replay_laws.specs.Settled.{Free, Stands, Kept}
+use Rattle.replay_laws.specs.Settled.{Stands, Kept}
 use Rattle.replay_laws.specs.Keeps.{Copied}
 use Rattle.replay_laws.specs.Places.{AtEach}
 use Rattle.fs_cells.specs.declared.cell.Cell.{Cell}

@@ -1,5 +1,5 @@
 -- Which collections are there along a line of operations.
-use Rattle.std.proofs.Common.{◌≡◌, ◌≢◌, ◌⊎◌, inl, inr, ⊎_elim, ℕ, zero, suc, Bool, true, false, not, ◌&&◌, ◌||◌, List, [], ◌∷◌, length, take, refl, sym, ◌∙◌, ap, subst, Option, Some, None}
+use Rattle.std.proofs.Common.{◌≡◌, ◌≢◌, ◌⊎◌, inl, inr, ⊎_elim, ℕ, zero, suc, Bool, true, false, not, ◌&&◌, ◌||◌, List, [], ◌∷◌, length, take, refl, sym, ◌∙◌, ap, subst, Some, None}
 use Rattle.std.proofs.Math.Seq.{take-length}
 use Rattle.std.proofs.lemmas.Bool.{cases_Bool}
 use Rattle.std.specs.Prelude.{slice_get}
@@ -19,8 +19,8 @@ use Rattle.fs_cells.proofs.Looks.{is_coll}
 use Rattle.tree_stands.proofs.Names.{coll_itself, true_not_false}
 use Rattle.op_places.specs.Line.{after_ops, makes, takes, there_by}
 
-pub coll_cases : (a b : Coll) → ((eq_by_cmp coll_cmp a b ≡ true) × (a ≡ b)) ⊎ ((eq_by_cmp coll_cmp a b ≡ false) × (a ≢ b))
-coll_cases a b = ⊎_elim
+pub two_colls : (a b : Coll) → ((eq_by_cmp coll_cmp a b ≡ true) × (a ≡ b)) ⊎ ((eq_by_cmp coll_cmp a b ≡ false) × (a ≢ b))
+two_colls a b = ⊎_elim
     (λ t. inl (t, is_coll a b t))
     (λ f. inr (f, λ same. true_not_false (eq_by_cmp coll_cmp a b) (subst (λ (c : Coll). eq_by_cmp coll_cmp a c ≡ true) same (coll_itself a)) f))
     (cases_Bool (eq_by_cmp coll_cmp a b))

@@ -4,3 +4,5 @@ pub mod Line
 pub mod Cells
 pub mod Shown
 pub mod Moving
+pub mod Edits
+pub mod Makes

@@ -1,5 +1,5 @@
 -- Parts of a plain line.
-use Rattle.std.proofs.Common.{◌≡◌, ℕ, zero, suc, ◌+◌, ◌-◌, ◌<◌, ◌≤◌, List, [], ◌∷◌, ◌++◌, length, map, take, drop, get_or, refl, sym, ◌∙◌, ap, subst, arith, take-add, take-append-drop, Some}
+use Rattle.std.proofs.Common.{◌≡◌, ℕ, zero, suc, ◌+◌, ◌<◌, ◌≤◌, List, [], ◌∷◌, ◌++◌, length, map, take, drop, get_or, refl, sym, ◌∙◌, ap, subst, arith, take-add, take-append-drop, Some}
 use Rattle.std.proofs.lemmas.List.{take-map, take-append-le, length-map}
 use Rattle.std.specs.Prelude.{slice_get}
 use Rattle.fs_model.specs.declared.op.Op.{Op}

@@ -1,23 +1,21 @@
 -- A tree along a line that grows, or whose first operations are forgotten; and what takes the next tree to its places.
-use Rattle.std.proofs.Common.{◌≡◌, ◌≢◌, ◌⊎◌, inl, inr, ⊎_elim, ℕ, suc, ◌+◌, ◌-◌, ◌<◌, ◌≤◌, Bool, true, false, List, ◌++◌, length, map, drop, refl, sym, ◌∙◌, ap, subst, arith, length-append, length-drop, Some}
+use Rattle.std.proofs.Common.{◌≡◌, ◌⊎◌, inl, inr, ⊎_elim, ℕ, suc, ◌+◌, ◌-◌, ◌<◌, ◌≤◌, Bool, true, false, List, ◌++◌, length, map, drop, refl, sym, ◌∙◌, ap, subst, arith, length-append, length-drop, Some}
 use Rattle.std.proofs.lemmas.Bool.{cases_Bool}
 use Rattle.std.proofs.lemmas.List.{map-append, drop-map, length-map}
 use Rattle.std.specs.Prelude.{slice_get}
 use Rattle.std.specs.FinMap as fin
 use Rattle.fs_names.specs.declared.coll.Coll.{Coll}
 use Rattle.fs_names.specs.declared.settings.Settings.{Settings}
-use Rattle.fs_names.specs.Reading.{CollFits}
 use Rattle.fs_model.specs.declared.op.Op.{Op}
 use Rattle.fs_model.specs.Objects.{Objects}
 use Rattle.fs_model.specs.Rows.{fold_ops}
 use Rattle.tree_api.specs.Tree.{Tree}
-use Rattle.replay_laws.specs.Replay.{Act, leaves, moved, effect, act, after, Case}
+use Rattle.replay_laws.specs.Replay.{Act, leaves, moved, effect, after, Case}
 use Rattle.replay_laws.specs.Settled.{Given}
 use Rattle.replay_laws.specs.Keeps.{Copied}
 use Rattle.replay_laws.specs.Places.{AtEach, GoesOne, from_there}
 use Rattle.replay_laws.proofs.Places.{places_law}
 use Rattle.replay_laws.proofs.Walk.{same_or_later}
-use Rattle.slot_laws.specs.Slots.{again}
 use Rattle.fs_cells.specs.declared.cell.Cell.{Cell}
 use Rattle.fs_cells.specs.Actions.{act_of}
 use Rattle.fs_cells.specs.Standing.{StandsForObjects}
@@ -26,16 +24,16 @@ use Rattle.fs_cells.proofs.Replaying.{raise_laws}
 use Rattle.fs_cells.proofs.Rows.{fold_law}
 use Rattle.fs_cells.proofs.Standing.{once_law}
 use Rattle.tree_stands.specs.Shown.{cells_in, guards_in}
-use Rattle.tree_stands.specs.Trees.{Maps, AreMaps, AllWhole, shown, TreeAt}
+use Rattle.tree_stands.specs.Trees.{Maps, AreMaps, shown}
 use Rattle.tree_stands.proofs.Trees.{maps, maps_are}
 use Rattle.op_places.specs.Line.{line_of, after_ops, makes, takes, gone_in, counts_of, IsPlain}
 use Rattle.op_places.specs.Places.{is_there, CollAt, PastOps}
 use Rattle.op_places.specs.Laws.{LineLaw}
 use Rattle.op_places.proofs.Colls.{same_end, next_there, stays_by}
 use Rattle.op_places.proofs.Gone.{is_place, gone_drop, gone_more}
-use Rattle.op_places.proofs.Line.{plain_first, after_more, after_longer, after_is, act_is, is_act, no_source}
-use Rattle.op_places.proofs.Cells.{Holds, kept_none, at_each, holds_along, holds_gone}
-use Rattle.op_places.proofs.Shown.{is_missing, guard_is, guard_there, guard_missing, cell_none}
+use Rattle.op_places.proofs.Line.{after_more, after_longer, after_is, act_is, is_act, no_source}
+use Rattle.op_places.proofs.Cells.{Holds, at_each, holds_along, holds_gone}
+use Rattle.op_places.proofs.Shown.{is_missing, guard_there, guard_missing, cell_none}
 
 -- no place is past the line
 pub place_le : (set : Settings) (O : Objects) (ops : List Op) (k : ℕ) (t : Tree) (c : Coll) → PastOps set O ops k t → k ≤ length ops

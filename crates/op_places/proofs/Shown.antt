@@ -1,5 +1,5 @@
 -- What a tree shows of its collections.
-use Rattle.std.proofs.Common.{◌≡◌, ◌≢◌, ◌⊎◌, inl, inr, ⊎_elim, ℕ, ◌≤◌, max, Bool, true, false, cond, ◌&&◌, List, refl, sym, ◌∙◌, ap, subst, arith, Option, Some, None}
+use Rattle.std.proofs.Common.{◌≡◌, ◌≢◌, ⊎_elim, ℕ, Bool, true, false, cond, ◌&&◌, List, refl, sym, ◌∙◌, ap, subst, Option, Some, None}
 use Rattle.std.proofs.lemmas.Bool.{cases_Bool}
 use Rattle.std.specs.Option.{is_some}
 use Rattle.fs_names.specs.declared.coll.Coll.{Coll}
@@ -11,8 +11,8 @@ use Rattle.tree_api.specs.Tree.{Version, Tree, held}
 use Rattle.lfn_index.specs.Maps.{Map, IsMap, Whole, content}
 use Rattle.fs_cells.specs.declared.cell.Cell.{Cell}
 use Rattle.fs_cells.specs.Values.{absent}
-use Rattle.tree_stands.specs.Names.{Name, name_of, coll_fits, name_fits}
-use Rattle.tree_stands.specs.Shown.{Shown, value_in, guard_in, guard_at, cells_in, guards_in}
+use Rattle.tree_stands.specs.Names.{Name, name_of, coll_fits}
+use Rattle.tree_stands.specs.Shown.{value_in, guard_in, guard_at, cells_in, guards_in}
 use Rattle.tree_stands.specs.Trees.{dir_of, Maps, AreMaps, dir_guard, shown}
 use Rattle.tree_stands.proofs.Names.{coll_is_fit, fit_coll, fit_cases}
 use Rattle.tree_stands.proofs.Trees.{one_map, one_content, shows, shows_none}
@@ -46,8 +46,8 @@ missing_is t c none = ap (λ (d : Option (Option (List ℕ))). coll_fits c && is
     nothing true = refl
     nothing false = refl
 
-pub unfit_is : (t : Tree) (c : Coll) → coll_fits c ≡ false → is_there t c ≡ false
-unfit_is t c unfit = ap (λ (b : Bool). b && is_some (dir_guard t c)) unfit
+pub unfit_is : (t : Tree) (c : Coll) → (CollFits c → ⊥) → is_there t c ≡ false
+unfit_is t c unfit = ⊎_elim (λ fits. absurd (unfit (fit_coll c fits))) (λ not. ap (λ (b : Bool). b && is_some (dir_guard t c)) not) (cases_Bool (coll_fits c))
 
 pub is_missing : (t : Tree) (c : Coll) → CollFits c → is_there t c ≡ false → dir_guard t c ≡ None
 is_missing t c fits isnt = none_shown (dir_guard t c) (sym (ap (λ (b : Bool). b && is_some (dir_guard t c)) (coll_is_fit c fits)) ∙ isnt)
@@ -70,6 +70,16 @@ guard_there ops M t x is = guard_is ops M t x ∙ ap (λ (b : Bool). cond b 0 (g
 
 pub guard_missing : (ops : List Op) (M : Maps) (t : Tree) (x : Cell) → is_there t x.c ≡ false → guards_in (counts_of ops) (shown M t) x ≡ gone_in x.c ops
 guard_missing ops M t x is = guard_is ops M t x ∙ ap (λ (b : Bool). cond b 0 (gone_in x.c ops)) is
+
+pub guard_same : (ops : List Op) (M W : Maps) (e f : Tree) (x : Cell) → is_there f x.c ≡ is_there e x.c → guards_in (counts_of ops) (shown W f) x ≡ guards_in (counts_of ops) (shown M e) x
+guard_same ops M W e f x same = guard_is ops W f x ∙ ap (λ (b : Bool). cond b 0 (gone_in x.c ops)) same ∙ sym (guard_is ops M e x)
+
+-- where the directory's guard stays
+pub there_same : (e f : Tree) (c : Coll) → (CollFits c → dir_guard f c ≡ dir_guard e c) → is_there f c ≡ is_there e c
+there_same e f c same = ⊎_elim
+    (λ fits. ap (λ (d : Option (Option (List ℕ))). coll_fits c && is_some d) (same (fit_coll c fits)))
+    (λ not. ap (λ (b : Bool). b && is_some (dir_guard f c)) not ∙ sym (ap (λ (b : Bool). b && is_some (dir_guard e c)) not))
+    (cases_Bool (coll_fits c))
 
 -- an empty collection shows no object
 module _ (set : Settings) (t : Tree) (M : Maps) (of_t : AreMaps set t M) where
@@ -110,7 +120,7 @@ module _ (set : Settings) (c : Coll) (e f : Tree) (stays : CollStays set c e f) 
       let fits_c : CollFits c = subst CollFits at fits.coll in
       let next = stays.objects (M c) (of_e c fits_c) in
       let same : content (W c) f n.oid ≡ content (M c) e n.oid =
-          sym (one_content set f (dir_of c) next.0 (W c) next.1 (of_f c fits_c) n.oid fits.oid) ∙ next.2 n.oid fits.oid in
+      sym (one_content set f (dir_of c) next.0 (W c) next.1 (of_f c fits_c) n.oid fits.oid) ∙ next.2 n.oid fits.oid in
       shows W f n is ∙ ap (λ (d : Coll). content (W d) f n.oid) at ∙ same ∙ sym (ap (λ (d : Coll). content (M d) e n.oid) at) ∙ sym (shows M e n is))
       (λ not. shows_none W f n not ∙ sym (shows_none M e n not))
       (fit_cases n)
