@@ -6,3 +6,4 @@ pub mod Shown
 pub mod Moving
 pub mod Edits
 pub mod Makes
+pub mod Fresh

@@ -33,6 +33,7 @@ use Rattle.op_places.proofs.Colls.{same_end, next_there, stays_by}
 use Rattle.op_places.proofs.Gone.{is_place, gone_drop, gone_more}
 use Rattle.op_places.proofs.Line.{after_more, after_longer, after_is, act_is, is_act, no_source}
 use Rattle.op_places.proofs.Cells.{Holds, at_each, holds_along, holds_gone}
+use Rattle.op_places.proofs.Fresh.{past_none}
 use Rattle.op_places.proofs.Shown.{is_missing, guard_there, guard_missing, cell_none}
 
 -- no place is past the line
@@ -161,6 +162,7 @@ past_once set O P ops t plain other one two =
 
 pub line_law : LineLaw
 line_law = record {
+  begins = λ set t none. past_none set t none;
   more = λ set O ops rest k t plain past. past_more set O ops rest k t plain past;
   back = λ set O ops k l t le past. past_back set O ops k l t le past;
   rebase = λ set O ops d t plain fits past. past_rebase set O ops d t plain fits past;

@@ -1,5 +1,6 @@
 -- What lines of operations, and one operation of a line, do to the places of a tree.
 use Rattle.std.specs.Prelude.{◌≡◌, ◌≢◌, ℕ, suc, ◌≤◌, List, [], ◌∷◌, ◌++◌, length, drop, slice_get, false, Option, Some, None}
+use Rattle.std.specs.FinMap as fin
 use Rattle.fs_names.specs.declared.coll.Coll.{Coll}
 use Rattle.fs_names.specs.declared.settings.Settings.{Settings}
 use Rattle.fs_names.specs.Reading.{CollFits}
@@ -12,6 +13,7 @@ use Rattle.tree_api.specs.Tree.{Version, Tree}
 use Rattle.lfn_index.specs.Maps.{content}
 use Rattle.fs_cells.specs.declared.cell.Part.{Part}
 use Rattle.fs_cells.specs.Parts.{CellAct}
+use Rattle.tree_stands.specs.Closed.{NoColls}
 use Rattle.tree_stands.specs.Names.{Name, NameFits}
 use Rattle.tree_stands.specs.Shown.{Paired}
 use Rattle.tree_stands.specs.Trees.{Maps, AreMaps, dir_guard, ForObject}
@@ -22,6 +24,8 @@ use Rattle.op_places.specs.Line.{after_ops, IsPlain, KeepsColls}
 use Rattle.op_places.specs.Places.{is_there, PastOps}
 
 pub record LineLaw : Type 0 where
+  -- a tree without collections has done nothing yet
+  pub begins : (set : Settings) (t : Tree) → NoColls t → PastOps set fin.empty [] 0 t
   -- more operations may come
   pub more : (set : Settings) (O : Objects) (ops rest : List Op) (k : ℕ) (t : Tree) → IsPlain O (ops ++ rest)
       → PastOps set O ops k t → PastOps set O (ops ++ rest) k t

@@ -6,7 +6,7 @@
 
 ghost use Rattle.op_places.specs.Laws.{CollLaw, EditLaw, LineLaw};
 
-/// A line may grow, and its first operations may be forgotten. Whatever a tree began with, a line takes it to one end.
+/// A tree without collections has done nothing of a line. A line may grow, and its first operations may be forgotten. Whatever a tree began with, a line takes it to one end.
 pub fn line_law()
     ensures { LineLaw }
 {}

@@ -1,0 +1,5 @@
+pub mod Flat
+pub mod Histories
+pub mod Theory
+pub mod Ready
+pub mod Operations

@@ -1,0 +1,3 @@
+pub mod Line
+pub mod Images
+pub mod Laws
