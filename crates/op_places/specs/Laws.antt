@@ -13,19 +13,18 @@ use Rattle.tree_api.specs.Tree.{Version, Tree}
 use Rattle.lfn_index.specs.Maps.{content}
 use Rattle.fs_cells.specs.declared.cell.Part.{Part}
 use Rattle.fs_cells.specs.Parts.{CellAct}
-use Rattle.tree_stands.specs.Closed.{NoColls}
 use Rattle.tree_stands.specs.Names.{Name, NameFits}
 use Rattle.tree_stands.specs.Shown.{Paired}
 use Rattle.tree_stands.specs.Trees.{Maps, AreMaps, dir_guard, ForObject}
 use Rattle.tree_stands.specs.Edits.{IsOn, Edits}
 use Rattle.op_effects.specs.Ready.{HasColls}
-use Rattle.op_effects.specs.Collections.{Makes, Drops}
+use Rattle.op_effects.specs.Collections.{IsGone, Makes, Drops}
 use Rattle.op_places.specs.Line.{after_ops, IsPlain, KeepsColls}
 use Rattle.op_places.specs.Places.{is_there, PastOps}
 
 pub record LineLaw : Type 0 where
   -- a tree without collections has done nothing yet
-  pub begins : (set : Settings) (t : Tree) → NoColls t → PastOps set fin.empty [] 0 t
+  pub begins : (set : Settings) (t : Tree) → ((c : Coll) → CollFits c → IsGone set c t) → PastOps set fin.empty [] 0 t
   -- more operations may come
   pub more : (set : Settings) (O : Objects) (ops rest : List Op) (k : ℕ) (t : Tree) → IsPlain O (ops ++ rest)
       → PastOps set O ops k t → PastOps set O (ops ++ rest) k t

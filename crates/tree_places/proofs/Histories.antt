@@ -1,16 +1,12 @@
 -- A tree in its history.
-use Rattle.std.proofs.Common.{◌≡◌, ℕ, zero, suc, ◌+◌, ◌-◌, ◌<◌, ◌≤◌, List, [], ◌∷◌, ◌++◌, length, take, drop, get_or, refl, sym, ◌∙◌, ap, subst, arith, append-nil, length-append, take_all, take_at, drop_at, inl, Some, None}
+use Rattle.std.proofs.Common.{◌≡◌, ℕ, ◌+◌, ◌-◌, ◌≤◌, List, [], ◌∷◌, ◌++◌, length, take, drop, refl, sym, ◌∙◌, ap, subst, arith, append-nil, length-append, take_all, take_at, drop_at}
 use Rattle.std.proofs.lemmas.List.{take-append-le}
-use Rattle.std.specs.Prelude.{slice_get}
-use Rattle.std.specs.FinMap as fin
-use Rattle.fs_names.specs.declared.coll.Coll.{Coll}
 use Rattle.fs_names.specs.declared.settings.Settings.{Settings}
-use Rattle.fs_names.specs.Order.{coll_cmp}
 use Rattle.fs_model.specs.declared.op.Op.{Op}
 use Rattle.fs_model.specs.Objects.{Objects}
 use Rattle.fs_model.specs.Rows.{fold_ops, fold_txns}
 use Rattle.tree_api.specs.Tree.{Tree}
-use Rattle.store_history.specs.History.{History, end_of, part, at, IsTxn, replay_of}
+use Rattle.store_history.specs.History.{History, end_of, part, at, replay_of}
 use Rattle.store_history.proofs.Parts.{take-part}
 use Rattle.op_places.specs.Line.{after_ops, NoneCopies, IsPlain}
 use Rattle.op_places.specs.Places.{PastOps}

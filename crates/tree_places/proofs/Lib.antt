@@ -3,3 +3,4 @@ pub mod Histories
 pub mod Theory
 pub mod Ready
 pub mod Operations
+pub mod Example

@@ -1,22 +1,11 @@
 -- Operations of a history, and how far its tree is then.
-use Rattle.std.proofs.Common.{◌≡◌, ℕ, suc, ◌+◌, ◌-◌, ◌<◌, ◌≤◌, List, [], length, get_or, refl, sym, ◌∙◌, ap, subst, arith, inl, Some}
+use Rattle.std.proofs.Common.{◌≡◌, ℕ, suc, ◌+◌, ◌-◌, List, [], length, take, sym, ◌∙◌, ap, subst, arith}
 use Rattle.std.specs.Prelude.{slice_get}
 use Rattle.std.specs.FinMap as fin
-use Rattle.fs_names.specs.declared.coll.Coll.{Coll}
 use Rattle.fs_names.specs.declared.settings.Settings.{Settings}
-use Rattle.fs_names.specs.Order.{coll_cmp}
 use Rattle.fs_model.specs.declared.op.Op.{Op}
-use Rattle.fs_model.specs.Objects.{Objects}
 use Rattle.tree_api.specs.Tree.{Tree}
-use Rattle.fs_cells.specs.declared.cell.Cell.{Cell}
-use Rattle.fs_cells.specs.Values.{cells_of}
-use Rattle.tree_stands.specs.Closed.{NoColls, Shows}
-use Rattle.tree_stands.specs.Shown.{cells_in, guards_in}
-use Rattle.tree_stands.specs.Trees.{dir_of, shown}
-use Rattle.tree_stands.proofs.Closed.{closed_law}
-use Rattle.store_history.specs.History.{History, IsTxn, replay_of}
-use Rattle.op_effects.specs.Collections.{IsEmpty}
-use Rattle.op_places.specs.Line.{counts_of, IsPlain}
+use Rattle.store_history.specs.History.{History, replay_of}
 use Rattle.op_places.specs.Places.{PastOps}
 use Rattle.op_places.specs.Laws.{IsAt}
 use Rattle.op_places.proofs.Edits as edits
@@ -80,11 +69,11 @@ history_law = record {
   back = back;
   longer = λ set h ops n lo hi t allowed built order known is.
       record { base = is.base; number = is.number; own = is.own; past = longer set h ops lo hi t allowed built order known is.past };
-  begins = λ set n t number own none. record {
+  begins = λ set n t number own gone. record {
     base = omega arith;
     number = number;
     own = own;
-    past = record { plain = record { allowed = tt; built = tt }; past = subst (λ (k : ℕ). PastOps set fin.empty (ops_to (replay_of n fin.empty []) n) k t) (none_done n) (subst (λ (l : List Op). PastOps set fin.empty l 0 t) (no_ops n) (past_none set t none)) };
+    past = record { plain = record { allowed = tt; built = tt }; past = subst (λ (k : ℕ). PastOps set fin.empty (ops_to (replay_of n fin.empty []) n) k t) (none_done n) (subst (λ (l : List Op). PastOps set fin.empty l 0 t) (no_ops n) (past_none set t gone)) };
   };
 }
   where

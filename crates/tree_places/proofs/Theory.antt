@@ -1,16 +1,13 @@
 -- What a store's turns ask of its tree.
-use Rattle.std.proofs.Common.{◌≡◌, ℕ, ◌+◌, ◌-◌, ◌≤◌, ◌^◌, ◌<◌, List, length, take, refl, sym, ◌∙◌, ap, subst, arith, take_all, take_at, Option, Some, Result, Ok}
-use Rattle.std.specs.Int.{from_be_bytes, w64}
-use Rattle.hex.specs.Hex.{decode_sized}
+use Rattle.std.proofs.Common.{◌≡◌, ℕ, ◌+◌, ◌-◌, ◌^◌, ◌<◌, List, length, take, refl, sym, ◌∙◌, ap, subst, arith, take_all, Some, Result, Ok}
 use Rattle.hex.specs.declared.error.FromHexError.{FromHexError}
 use Rattle.fs_names.specs.declared.settings.Settings.{Settings}
 use Rattle.fs_model.specs.declared.op.Op.{Op}
 use Rattle.fs_model.specs.Objects.{Objects}
-use Rattle.fs_model.specs.Rows.{fold_txns}
 use Rattle.tree_api.specs.Tree.{Version, Tree}
 use Rattle.commit_point.specs.Number.{spelled, HasNumber}
 use Rattle.commit_point.proofs.Digits.{eight, spelled_bytes, number_back}
-use Rattle.store_history.specs.History.{History, end_of, replay_of}
+use Rattle.store_history.specs.History.{replay_of}
 use Rattle.store_history.specs.Images.{ImageLaws}
 use Rattle.op_places.specs.Places.{PastOps}
 use Rattle.op_places.proofs.Moving.{past_once}

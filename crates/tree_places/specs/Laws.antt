@@ -1,5 +1,5 @@
 -- What follows for a store that does its transactions one after the other.
-use Rattle.std.specs.Prelude.{◌≡◌, ◌≢◌, ℕ, ◌+◌, ◌-◌, ◌<◌, ◌≤◌, List, [], ◌∷◌, length, slice_get, false, Option, Some, None}
+use Rattle.std.specs.Prelude.{◌≡◌, ◌≢◌, ℕ, ◌+◌, ◌-◌, ◌^◌, ◌<◌, ◌≤◌, List, [], ◌∷◌, length, slice_get, false, Option, Some, None}
 use Rattle.std.specs.FinMap as fin
 use Rattle.fs_names.specs.declared.coll.Coll.{Coll}
 use Rattle.fs_names.specs.declared.settings.Settings.{Settings}
@@ -8,35 +8,29 @@ use Rattle.fs_model.specs.declared.op.Op.{Op}
 use Rattle.fs_model.specs.declared.op.Op.TheVariants.{MkColl, RmColl}
 use Rattle.fs_model.specs.Named.{colls_named, made}
 use Rattle.tree_api.specs.Tree.{Version, Tree}
-use Rattle.tree_api.specs.Disk.{Disk, Sound, Everywhere}
 use Rattle.lfn_index.specs.Maps.{content}
 use Rattle.fs_cells.specs.declared.cell.Part.{Part}
 use Rattle.fs_cells.specs.Parts.{CellAct}
 use Rattle.fs_cells.specs.Laws.{AreAllowed}
 use Rattle.fs_cells.specs.Standing.{AllAllowed}
-use Rattle.tree_stands.specs.Closed.{NoColls}
 use Rattle.tree_stands.specs.Names.{Name}
 use Rattle.tree_stands.specs.Shown.{Paired}
 use Rattle.tree_stands.specs.Trees.{Maps, AreMaps, dir_guard, ForObject}
-use Rattle.commit_point.specs.Number.{HasNumber, IsReady}
+use Rattle.commit_point.specs.Number.{HasNumber}
 use Rattle.store_history.specs.History.{History, end_of, at, IsTxn, replay_of}
 use Rattle.store_turns.specs.Theory.{Theory}
-use Rattle.op_effects.specs.Ready.{HasColls, Ready}
-use Rattle.op_effects.specs.Collections.{Makes, Drops}
+use Rattle.op_effects.specs.Ready.{HasColls}
+use Rattle.op_effects.specs.Collections.{IsGone, Makes, Drops}
 use Rattle.op_places.specs.Line.{NoneCopies, IsPlain}
 use Rattle.op_places.specs.Places.{is_there}
 use Rattle.op_places.specs.Laws.{EditsOne}
 use Rattle.tree_places.specs.Line.{ops_of, ops_to, count_to, At, with_txn}
+use Rattle.tree_places.specs.Example.{made_tree}
 use Rattle.tree_places.specs.Images.{IsOwn, IsLaid, Image, reads}
 
 -- what a store's turns ask of its tree
 abbrev pub TheoryLaw : Type 0
 TheoryLaw = (set : Settings) → Theory (Image set) (reads set) HasNumber (IsLaid set)
-
-pub record ReadyLaw : Type 0 where
-  -- a tree that is the only image is ready for operations, and for a committed number
-  pub ready : (set : Settings) (d : Disk) → Sound d → Everywhere d (λ c. c ≡ d.tree) → IsLaid set d.tree → Ready set d
-  pub number : (t : Tree) → IsOwn t → IsReady t
 
 pub record HistoryLaw : Type 0 where
   -- a transaction's operations have their places in the line
@@ -53,7 +47,11 @@ pub record HistoryLaw : Type 0 where
   pub longer : (set : Settings) (h : History) (ops : List Op) (n lo hi : ℕ) (t : Tree) → AreAllowed (at h (end_of h)) ops → NoneCopies ops
       → lo ≤ hi → hi ≤ end_of h → Image set h n lo hi t → Image set (with_txn h ops) n lo hi t
   -- a tree without collections has done none of a store's first transactions
-  pub begins : (set : Settings) (n : ℕ) (t : Tree) → HasNumber t n → IsOwn t → NoColls t → Image set (replay_of n fin.empty []) n n n t
+  pub begins : (set : Settings) (n : ℕ) (t : Tree) → HasNumber t n → IsOwn t → ((c : Coll) → CollFits c → IsGone set c t) → Image set (replay_of n fin.empty []) n n n t
+
+-- a store that was just made has done none of its first transactions
+abbrev pub ExampleLaw : Type 0
+ExampleLaw = (set : Settings) (n : ℕ) → n < 2 ^ 63 → Image set (replay_of n fin.empty []) n n n (made_tree n)
 
 -- The operation at k of the line up to hi is this one, and what reads is past those before it.
 pub record ComesNext (set : Settings) (h : History) (hi k : ℕ) (op : Op) (t : Tree) : Type 0 where

@@ -1,3 +1,4 @@
 pub mod Line
 pub mod Images
+pub mod Example
 pub mod Laws

@@ -1,5 +1,5 @@
 -- How far a tree has gone in a store's history, whose transactions are done one after the other.
-use Rattle.std.specs.Prelude.{◌≡◌, ℕ, ◌-◌, List, [], ◌∷◌, ◌++◌, length, take}
+use Rattle.std.specs.Prelude.{ℕ, ◌-◌, List, [], ◌∷◌, ◌++◌, length, take}
 use Rattle.fs_names.specs.declared.settings.Settings.{Settings}
 use Rattle.fs_model.specs.declared.op.Op.{Op}
 use Rattle.tree_api.specs.Tree.{Tree}

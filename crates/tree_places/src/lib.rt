@@ -5,21 +5,32 @@
 //! its tree, and what each kind of operation has to do for it.
 #![tactic(auto)]
 
-ghost use Rattle.tree_places.specs.Laws.{CollLaw, EditLaw, HistoryLaw, ReadyLaw, TheoryLaw};
+ghost use Rattle.std.specs.Prelude.{◌≡◌};
+ghost use Rattle.fs_names.specs.declared.settings.Settings.{Settings};
+ghost use Rattle.tree_api.specs.Tree.{Tree};
+ghost use Rattle.tree_api.specs.Disk.{Everywhere};
+ghost use Rattle.commit_point.specs.Number.{IsReady};
+ghost use Rattle.op_effects.specs.Ready.{Ready};
+ghost use Rattle.tree_places.specs.Images.{IsLaid, IsOwn};
+ghost use Rattle.tree_places.specs.Laws.{CollLaw, EditLaw, ExampleLaw, HistoryLaw, TheoryLaw};
+
+use tree_api::FileTree;
 
 /// Such trees are what a store's turns ask for.
 pub fn theory_law()
     ensures { TheoryLaw }
 {}
 
-/// A tree that is the only image is ready for what comes next.
-pub fn ready_law()
-    ensures { ReadyLaw }
+/// A told tree whose only image is what reads is ready for operations, and a committed number may be written.
+pub fn ready_law<T: FileTree>()
+    ensures operations { (set : Settings) (tree : T) → T.tells tree → Everywhere (T.disk tree) (λ c. c ≡ (T.disk tree).tree) → IsLaid set (T.disk tree).tree → Ready set (T.disk tree) }
+    ensures number { (t : Tree) → IsOwn t → IsReady t }
 {}
 
-/// Where a transaction's operations stand in the line, and what else a history may become.
+/// Where a transaction's operations stand in the line, what else a history may become, and how one begins.
 pub fn history_law()
-    ensures { HistoryLaw }
+    ensures history { HistoryLaw }
+    ensures example { ExampleLaw }
 {}
 
 /// An operation on one object: images stay where they were at any moment, and once it is done what reads is past it. It is
