@@ -1,5 +1,5 @@
 -- Changes of a file that leave alone what isn't its object's.
-use Rattle.std.proofs.Common.{◌≡◌, ℕ, List, [], ◌∷◌, codes, refl, ◌∙◌, Option, Some, None}
+use Rattle.std.proofs.Common.{◌≡◌, ℕ, List, [], ◌∷◌, codes, ◌∙◌, arith, refl, Option, Some, None}
 use Rattle.std.specs.List.{fold}
 use Rattle.fs_model.specs.declared.pair.Pair.{Pair}
 use Rattle.tree_api.specs.Tree.{Version}
@@ -16,10 +16,10 @@ pub bytes_inside : (f : List ℕ → List ℕ) → Inside (with_bytes f)
 bytes_inside f = record { text = λ v. refl; guard = λ v. refl }
 
 text_not_ours : IsOurs lfn_name → ⊥
-text_not_ours = not_ours 108 (codes "fn") (λ e. cc)
+text_not_ours = not_ours 108 (codes "fn") (λ e. omega (arith, e))
 
 guard_not_ours : IsOurs guard_name → ⊥
-guard_not_ours = not_ours 103 (codes "uard") (λ e. cc)
+guard_not_ours = not_ours 103 (codes "uard") (λ e. omega (arith, e))
 
 pub attr_inside : (name : List ℕ) (value : Option (List ℕ)) → Inside (with_attr (attr_name name) value)
 attr_inside name value = record {

@@ -74,3 +74,7 @@ when_done D (Err e) f = tt
 pub on_both : {T E : Type 0} (A B C : Type 0) (r : Result T E) → OnOk r A → OnOk r B → (A → B → C) → OnOk r C
 on_both A B C (Ok v) a b f = f a b
 on_both A B C (Err e) a b f = tt
+
+pub on_ok_is : {T E : Type 0} (A B : Type 0) (r : Result T E) → OnOk r A → (A → B) → OnOk r B
+on_ok_is A B (Ok v) a f = f a
+on_ok_is A B (Err e) a f = tt
