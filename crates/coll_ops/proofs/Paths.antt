@@ -1,0 +1,166 @@
+-- Where collections and the trash stand.
+use Rattle.std.proofs.Common.{◌≡◌, ◌≢◌, ◌⊎◌, inl, inr, ⊎_elim, ℕ, ◌<◌, ◌≤◌, Bool, false, true, not, ◌&&◌, ◌==◌, List, [], ◌∷◌, ◌++◌, length, get_or, codes, All, refl, sym, ◌∙◌, ap, subst, arith, Option, Some, None, append_assoc}
+use Rattle.std.proofs.lemmas.Bool.{cases_Bool}
+use Rattle.std.proofs.lemmas.Bool.Decides.{nat_tests}
+use Rattle.std.proofs.lemmas.List.{length-append, append-nil}
+use Rattle.std.proofs.lemmas.List.Elements.{All-weaker, All-append, All-cons}
+use Rattle.std.proofs.lemmas.List.Sums.{AllPass-from_list_all}
+use Rattle.std.specs.Fmt.{digits}
+use Rattle.std.specs.List.{list_all}
+use Rattle.std.specs.Char.{is_ascii_graphic}
+use Rattle.std.specs.Ordering.{eq_by_cmp}
+use Rattle.fs_names.specs.declared.coll.Coll.{Coll}
+use Rattle.fs_names.specs.declared.coll.Coll.TheVariants.{Meta, Pg}
+use Rattle.fs_names.specs.declared.settings.Pos.{Pos}
+use Rattle.fs_names.specs.Numbers.{is_lower_digit}
+use Rattle.fs_names.specs.Order.{coll_cmp}
+use Rattle.fs_names.specs.Reading.{CollFits, coll_of, pg_of, pg_from}
+use Rattle.fs_names.specs.Text.{coll_text}
+use Rattle.fs_names.proofs.CollLaw.{coll_texts_are_read}
+use Rattle.fs_names.proofs.Colls.{head_text, temp_text}
+use Rattle.fs_names.proofs.Digits.{digits-lower}
+use Rattle.tree_api.specs.Step.{IsStep, IsStepByte}
+use Rattle.tree_api.specs.Tree.{Path, current, IsAbove}
+use Rattle.lfn_index.specs.Directory.{entry}
+use Rattle.lfn_index.specs.Changes.{aside, place_name}
+use Rattle.lfn_index.proofs.Places.{is_step_from}
+use Rattle.fs_cells.proofs.Looks.{is_coll}
+use Rattle.tree_stands.specs.Trees.{dir_of}
+use Rattle.tree_stands.proofs.Names.{coll_itself, true_not_false}
+use Rattle.tree_stands.proofs.OneFile.{one_coll}
+use Rattle.coll_ops.specs.Places.{trash, trash_at, Within}
+
+-- a collection's text is a step of a path
+lower_byte : (base b : ℕ) → base ≤ 16 → is_lower_digit base b ≡ true → IsStepByte b
+lower_byte base b high h = (grind (arith, nat_tests), grind (arith, nat_tests), grind (arith, nat_tests))
+
+digits_steps : (base n : ℕ) → 2 ≤ base → base ≤ 16 → All IsStepByte (digits base false n)
+digits_steps base n low high = All-weaker (λ b. is_lower_digit base b ≡ true) IsStepByte (λ b. lower_byte base b high) (digits base false n) (digits-lower base n low high)
+
+pg_steps : (pool seed : ℕ) (kind : List ℕ) → All IsStepByte kind → All IsStepByte (digits 10 false pool ++ (codes "." ++ (digits 16 false seed ++ kind)))
+pg_steps pool seed kind all =
+    All-append IsStepByte (digits 10 false pool) (codes "." ++ (digits 16 false seed ++ kind)) (digits_steps 10 pool (omega arith) (omega arith))
+    (All-cons IsStepByte 46 (digits 16 false seed ++ kind) (omega arith, omega arith, omega arith)
+    (All-append IsStepByte (digits 16 false seed) kind (digits_steps 16 seed (omega arith) (omega arith)) all))
+
+abbrev plain : ℕ → Bool
+plain b = is_ascii_graphic b && not (b == 47)
+
+plain_byte : (b : ℕ) → plain b ≡ true → IsStepByte b
+plain_byte b h = (grind (arith, nat_tests), grind (arith, nat_tests), grind (arith, nat_tests))
+
+plain_steps : (bytes : List ℕ) → list_all plain bytes ≡ true → All IsStepByte bytes
+plain_steps bytes all = All-weaker (λ b. plain b ≡ true) IsStepByte plain_byte bytes (AllPass-from_list_all plain bytes all)
+
+meta_text : coll_text Meta ≡ codes "meta"
+unfolding coll_text
+meta_text = refl
+
+text_steps : (c : Coll) → All IsStepByte (coll_text c)
+text_steps Meta = subst (All IsStepByte) (sym meta_text) (plain_steps (codes "meta") refl)
+text_steps (Pg pool seed false) = subst (All IsStepByte) (sym (head_text pool seed)) (pg_steps pool seed (codes "_head") (plain_steps (codes "_head") refl))
+text_steps (Pg pool seed true) = subst (All IsStepByte) (sym (temp_text pool seed)) (pg_steps pool seed (codes "_TEMP") (plain_steps (codes "_TEMP") refl))
+
+dotted_some : (xs ys : List ℕ) → 0 < length (xs ++ (codes "." ++ ys))
+dotted_some xs ys = omega (arith, length-append xs (codes "." ++ ys))
+
+text_some : (c : Coll) → 0 < length (coll_text c)
+text_some Meta = subst (λ (l : List ℕ). 0 < length l) (sym meta_text) (omega arith)
+text_some (Pg pool seed false) = subst (λ (l : List ℕ). 0 < length l) (sym (head_text pool seed)) (dotted_some (digits 10 false pool) (digits 16 false seed ++ codes "_head"))
+text_some (Pg pool seed true) = subst (λ (l : List ℕ). 0 < length l) (sym (temp_text pool seed)) (dotted_some (digits 10 false pool) (digits 16 false seed ++ codes "_TEMP"))
+
+pub coll_step : (c : Coll) → IsStep (coll_text c)
+coll_step c = is_step_from (coll_text c) (text_some c) (text_steps c)
+
+-- no collection is called as a directory of the store's own is
+pg_none : (a b : Option ℕ) → pg_from a b None ≡ None
+pg_none None None = refl
+pg_none None (Some y) = refl
+pg_none (Some x) None = refl
+pg_none (Some x) (Some y) = refl
+
+abbrev pub IsOwn : List ℕ → Type 0
+IsOwn text = coll_of text ≡ None
+
+pub own_aside : IsOwn (codes "aside")
+unfolding coll_of pg_of
+own_aside = pg_none _ _
+
+pub own_trash : IsOwn (codes "trash")
+unfolding coll_of pg_of
+own_trash = pg_none _ _
+
+pub own_omap : IsOwn (codes "omap")
+unfolding coll_of pg_of
+own_omap = pg_none _ _
+
+pub own_number : IsOwn (codes "commit_op_seq")
+unfolding coll_of pg_of
+own_number = pg_none _ _
+
+pub never_own : (c : Coll) → CollFits c → (text : List ℕ) → IsOwn text → coll_text c ≢ text
+never_own c fits text own same = let none : Some c ≡ None = sym (coll_texts_are_read c fits) ∙ ap coll_of same ∙ own in cc
+
+pub coll_dec : (a b : Coll) → (a ≡ b) ⊎ (a ≢ b)
+coll_dec a b = ⊎_elim (λ t. inl (is_coll a b t)) (λ f. inr (λ same. true_not_false (eq_by_cmp coll_cmp a b) (subst (λ (c : Coll). eq_by_cmp coll_cmp a c ≡ true) same (coll_itself a)) f)) (cases_Bool (eq_by_cmp coll_cmp a b))
+
+-- the second step of two paths
+abbrev under : List ℕ → Path → Path
+under step rest = codes "current" ∷ step ∷ rest
+
+second : (x y : List ℕ) (p q : Path) → under x p ≡ under y q → x ≡ y
+second x y p q same = cc
+
+shorter : (x y z : List ℕ) (rest : Path) → under x [] ≡ under y (z ∷ rest) → ⊥
+shorter x y z rest same = cc
+
+-- off a collection's directory stand those of others and what stands in them, files being built, and the trash
+module _ (c : Coll) (fits : CollFits c) where
+  pub other_dir : (d : Coll) → CollFits d → d ≢ c → Within (dir_of c) (dir_of d) → ⊥
+  other_dir d of_d differ is = differ (one_coll d c of_d fits (second (coll_text d) (coll_text c) [] is.0 is.1))
+
+  pub other_entry : (d : Coll) → CollFits d → d ≢ c → (s : List ℕ) → Within (dir_of c) (entry (dir_of d) s) → ⊥
+  other_entry d of_d differ s is = differ (one_coll d c of_d fits (second (coll_text d) (coll_text c) (s ∷ []) is.0 is.1))
+
+  off_own : (text : List ℕ) (p : Path) → IsOwn text → Within (dir_of c) (under text p) → ⊥
+  off_own text p own is = never_own c fits text own (sym (second text (coll_text c) p is.0 is.1))
+
+  pub off_aside : Within (dir_of c) aside → ⊥
+  off_aside is = off_own (codes "aside") [] own_aside is
+
+  pub off_place : (s : List ℕ) → Within (dir_of c) (entry aside s) → ⊥
+  off_place s is = off_own (codes "aside") (s ∷ []) own_aside is
+
+  module _ (pos : Pos) where
+    pub never_trash : Within (trash_at pos) (dir_of c) → ⊥
+    never_trash is = shorter (coll_text c) (codes "trash") (place_name pos) is.0 is.1
+
+    pub never_trash_entry : (s : List ℕ) → Within (trash_at pos) (entry (dir_of c) s) → ⊥
+    never_trash_entry s is = never_own c fits (codes "trash") own_trash (second (coll_text c) (codes "trash") (s ∷ []) (place_name pos ∷ is.0) is.1)
+
+    pub apart : (q : Path) → Within (dir_of c) q → Within (trash_at pos) q → ⊥
+    apart q one two = never_own c fits (codes "trash") own_trash (second (coll_text c) (codes "trash") one.0 (place_name pos ∷ two.0) (sym one.1 ∙ two.1))
+
+apart_names : codes "aside" ≢ codes "trash"
+apart_names same = let e : 97 ≡ 116 = ap (λ (l : List ℕ). get_or l 0 0) same in absurd (omega (arith, e))
+
+pub aside_trash : (pos : Pos) → Within (trash_at pos) aside → ⊥
+aside_trash pos is = shorter (codes "aside") (codes "trash") (place_name pos) is.0 is.1
+
+pub place_trash : (pos : Pos) (s : List ℕ) → Within (trash_at pos) (entry aside s) → ⊥
+place_trash pos s is = apart_names (second (codes "aside") (codes "trash") (s ∷ []) (place_name pos ∷ is.0) is.1)
+
+-- a path within one below a second is within the second
+pub within_below : (p x q : Path) → Within (p ++ x) q → Within p q
+within_below p x q is = (x ++ is.0, is.1 ∙ append_assoc p x is.0)
+
+pub within_itself : (p : Path) → Within p p
+within_itself p = ([], sym (append-nil p))
+
+-- paths with nothing in common
+module _ (from to : Path) (off : (q : Path) → Within from q → Within to q → ⊥) where
+  pub not_above : ¬ IsAbove from to
+  not_above is = off to (is.0 ∷ is.1, is.2) (within_itself to)
+
+  pub not_root : to ≢ []
+  not_root same = off from (within_itself from) (from, subst (λ (p : Path). from ≡ p ++ from) (sym same) refl)

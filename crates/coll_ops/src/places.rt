@@ -1,0 +1,44 @@
+// Paths of collections and of the trash.
+ghost use Rattle.std.specs.Prelude.{◌≡◌, IfOk};
+ghost use Rattle.tree_api.specs.Tree.{current};
+ghost use Rattle.tree_stands.specs.Trees.{dir_of};
+ghost use Rattle.coll_ops.specs.Places.{trash, trash_at};
+
+use fs_names::{Coll, Pos, encode_coll};
+use lfn_index::aside_path;
+use std::alloc::{AllocError, Global};
+use tree_api::TreePath;
+
+fn current_path(alloc: Global) -> Result<TreePath, AllocError>
+    ensures { IfOk result (λ path. path ≡ current) }
+{
+    TreePath::root(alloc).join(b"current")
+}
+
+/// Where a collection stands.
+#[tactic(auto, using(crate::proofs::Paths::coll_step))]
+pub fn coll_path(alloc: Global, coll: &Coll) -> Result<TreePath, AllocError>
+    ensures { IfOk result (λ path. path ≡ dir_of coll.now) }
+{
+    coll.fits();
+    let text = encode_coll(alloc, coll)?;
+    let current = current_path(alloc)?;
+    current.join(text.slice())
+}
+
+fn trash_dir(alloc: Global) -> Result<TreePath, AllocError>
+    ensures { IfOk result (λ path. path ≡ trash) }
+{
+    let current = current_path(alloc)?;
+    current.join(b"trash")
+}
+
+/// Where the operation at this position puts a collection that it takes away. The name is that of the file that it would
+/// build aside.
+pub fn trash_path(alloc: Global, pos: Pos) -> Result<TreePath, AllocError>
+    ensures { IfOk result (λ path. path ≡ trash_at pos) }
+{
+    let dir = trash_dir(alloc)?;
+    let place = aside_path(alloc, pos)?;
+    dir.join(place.step(2))
+}
