@@ -71,10 +71,16 @@ pub fn mount<S: Side, D: Device>(
     ensures tree_faults { (S.disk side.old).faults ≤ (S.disk side.new).faults }
     ensures device_faults { (D.state dev.old).faults ≤ (D.state dev.new).faults }
 {
-    let found = find(alloc, side, dev, fsid)?;
+    let found = match find(alloc, side, dev, fsid) {
+        Ok(found) => found,
+        Err(fault) => return Err(fault),
+    };
     let mut ring = found.ring;
     let committed = found.committed;
-    replay(alloc, side, &mut ring, dev, committed)?;
+    match replay(alloc, side, &mut ring, dev, committed) {
+        Ok(()) => {}
+        Err(fault) => return Err(fault),
+    }
     reopen(&mut ring, dev, committed)?;
     let journalled = ring.last_seq();
     Ok(Mounted {

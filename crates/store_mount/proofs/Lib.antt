@@ -1,0 +1,6 @@
+mod Told
+mod Going
+mod Ways
+mod Refusals
+mod Carried
+mod Numbers
