@@ -44,11 +44,14 @@ found_journals image fsid d o n last e within c is_image sound fresh = inl (with
 -- ---- entries were done again
 
 module _ (image : Images Tree) (reads : Reads) (number : Tree → ℕ → Type 0) (laid : Tree → Type 0) (theory : Theory image reads number laid)
-    (fsid : List ℕ) (old mid new : Files) (d : Disk) (head : Head) (header : head_of d.reads ≡ Some head) (m : ℕ) (is : number old.tree m)
+    (fsid : List ℕ) (old mid new : Files) (d : Disk) (head : Head) (header : head_of d.reads ≡ Some head) (fsid_is : head.fsid ≡ fsid) (m : ℕ) (is : number old.tree m)
     (only : Everywhere mid (λ t. t ≡ old.tree)) (sound : Sound new) (loaded : Disk) (same : loaded ≡ settled d.reads)
     (keeps : WhereSpelled image m head.seq (readable loaded.stable) mid (λ h. Keeps (image h m m (end_of h)) mid new)) where
   entries : readable loaded.stable ≡ readable d.reads
   entries = ap (λ (x : Disk). readable x.stable) same
+
+  of_fsid : (txns : List (List Op)) (c : List ℕ) → IsAbove head.fsid m txns c → IsAbove fsid m txns c
+  of_fsid txns c a = record { head = a.head; header = a.header; fsid_is = a.fsid_is ∙ fsid_is; no_gap = a.no_gap; spelled = a.spelled }
 
   module _ (o : Objects) (n last : ℕ) (s : StandsAt image fsid old.tree d.reads o n last) where
     abbrev pub Way : Tree → Type 0
@@ -78,13 +81,13 @@ module _ (image : Images Tree) (reads : Reads) (number : Tree → ℕ → Type 0
         joined P old mid new so_far
         (weaker Way P mid new run (λ t way. inr (stand t d.reads way (own image reads number laid theory fsid d.reads head header m old.tree is o n last s))))
 
-    pub run_journals : (e : Disk) → EachSound (IsAbove fsid m s.txns) e → EachImage (WasOrServes image fsid d o n last) e
+    pub run_journals : (e : Disk) → EachSound (IsAbove head.fsid m s.txns) e → EachImage (WasOrServes image fsid d o n last) e
     run_journals e each c is_image so fresh =
         inr (serves image reads number laid theory fsid d.reads head header m o n last
-        (number_is image reads number laid theory fsid d.reads head header m old.tree is o n last s) s.txns spells c (each c is_image so))
+        (number_is image reads number laid theory fsid d.reads head header m old.tree is o n last s) s.txns spells c (of_fsid s.txns c (each c is_image so)))
 
     pub mounted : (j : ℕ) (r : State) (e : Disk) → j ≡ m + length s.txns → WhereSpelled image m head.seq (readable loaded.stable) mid (λ h. reads Live h (end_of h) new.tree)
-        → RingSide fsid (replay_of m s.before s.txns) m (m + length s.txns) (m + length s.txns) r e
+        → RingSide head.fsid (replay_of m s.before s.txns) m (m + length s.txns) (m + length s.txns) r e
         → MountedAs image reads fsid o n last (record { ring = r; numbers = record { journalled = j; committed = m } }) new e
     mounted j r e j_is live ring =
         let same = number_is image reads number laid theory fsid d.reads head header m old.tree is o n last s in
@@ -100,12 +103,12 @@ module _ (image : Images Tree) (reads : Reads) (number : Tree → ℕ → Type 0
             small = omega (arith, s.fits, end);
             images = λ t may. subst (λ (i : ℕ). image (replay_of m s.before s.txns) m m i t) (sym j_is) (at_new t may);
             reads = subst (λ (i : ℕ). reads Live (replay_of m s.before s.txns) i new.tree) (sym j_is) (live s.before s.txns spells_loaded at_mid);
-            ring = subst (λ (i : ℕ). RingSide fsid (replay_of m s.before s.txns) m i i r e) (sym j_is) ring;
+            ring = subst (λ (i : ℕ). RingSide fsid (replay_of m s.before s.txns) m i i r e) (sym j_is) (subst (λ (f : List ℕ). RingSide f (replay_of m s.before s.txns) m (m + length s.txns) (m + length s.txns) r e) fsid_is ring);
           };
         }
 
   pub run_carries : old.may old.tree → IsImage d d.reads → ReadsSound d → IsUnspent head → (e : Disk)
-      → ((txns : List (List Op)) → Spells (above m head.seq (readable d.reads)) txns → EachSound (IsAbove fsid m txns) e) → PairsCarry image fsid old.may d new.may e
+      → ((txns : List (List Op)) → Spells (above m head.seq (readable loaded.stable)) txns → EachSound (IsAbove head.fsid m txns) e) → PairsCarry image fsid old.may d new.may e
   run_carries may is_image so unspent e each t now c c_image c_sound fresh = record {
     tree = old.tree;
     bytes = d.reads;
@@ -113,10 +116,5 @@ module _ (image : Images Tree) (reads : Reads) (number : Tree → ℕ → Type 0
     is_image = is_image;
     sound = so;
     unspent = λ h k. subst IsUnspent (some_head head h (sym header ∙ k)) unspent;
-    same = λ o n last s. stand o n last s t c (at_new o n last s t now) (each s.txns (spells o n last s) c c_image c_sound);
+    same = λ o n last s. stand o n last s t c (at_new o n last s t now) (of_fsid s.txns c (each s.txns (spells_loaded o n last s) c c_image c_sound));
   }
-
--- what is said of the ring as it was after the replay, said of it as it was found
-pub as_found : (F : ℕ → List ℕ → List Entry → Type 0) (head head2 : Head) (fsid : List ℕ) (es es2 : List Entry) → head2 ≡ head → head.fsid ≡ fsid → es2 ≡ es → F head2.seq head2.fsid es2 → F head.seq fsid es
-as_found F head head2 fsid es es2 h f e x =
-    subst (λ (i : List ℕ). F head.seq i es) f (subst (λ (k : Head). F k.seq k.fsid es) h (subst (λ (xs : List Entry). F head2.seq head2.fsid xs) e x))

@@ -3,4 +3,5 @@ mod Going
 mod Ways
 mod Refusals
 mod Carried
+mod Reopened
 mod Numbers

@@ -72,7 +72,3 @@ module _ (image : Images Tree) (reads : Reads) (number : Tree → ℕ → Type 0
       let is : number t m = subst (number t) e (theory.number_is (replay_of n s.before s.txns) n n last t s.good) in
       let same : Spells (above m ab.head.seq (readable c)) s.txns = ab.spelled ∙ sym spells ∙ spelled t is o n last s in
       stands t is o n last s t c (good t is o n last s) (record { head = ab.head; header = ab.header; fsid_is = ab.fsid_is; no_gap = ab.no_gap; spelled = same })
-
-  -- the old bytes themselves
-  pub same_bytes : head.fsid ≡ fsid → head.seq ≤ m + 1 → (txns : List (List Op)) → Spells (above m head.seq (readable bytes)) txns → IsAbove fsid m txns bytes
-  same_bytes f gap txns spells = record { head = head; header = header; fsid_is = f; no_gap = gap; spelled = spells }
