@@ -1,6 +1,7 @@
 // All that waits.
-ghost use Rattle.std.specs.Prelude.{◌≡◌, ℕ, ◌+◌, ◌-◌, ◌<◌, ◌≤◌, ◌^◌, List, length, OnOk, IsErrOf};
+ghost use Rattle.std.specs.Prelude.{◌≡◌, ◌≢◌, ℕ, ◌+◌, ◌-◌, ◌<◌, ◌≤◌, ◌^◌, List, length, Err, OnOk, IsErrOf};
 ghost use Rattle.fault_count.specs.Counted.{Counted};
+ghost use Rattle.tree_api.specs.Tree.{Path};
 ghost use Rattle.ring_journal.specs.State.{Holds};
 ghost use Rattle.store_history.specs.History.{History};
 ghost use Rattle.store_history.specs.Pair.{PairsStand};
@@ -29,19 +30,20 @@ pub fn drain<S: Side, D: Device>(
     requires counts { Fits core.old ring.old }
     requires small { core.old.journalled + length waiting.now < 2 ^ 63 }
     requires extent { (D.state dev.old).size ≡ ring.old.head.size }
-    requires laid { S.tells side.old → S.laid (S.disk side.old).tree }
+    requires ready { S.tells side.old → S.ready (S.disk side.old) }
     requires holds { D.tells dev.old → Holds ring.old (D.state dev.old).disk }
     requires fits { AllFit (ring.old.head.size - 8192) waiting.now }
     ensures counts { OnOk result (Fits core.new ring.new) }
     ensures number { OnOk result (core.new.journalled ≡ core.old.journalled + length waiting.now) }
     ensures grows { core.old.journalled ≤ core.new.journalled }
     ensures committed { OnOk result (core.new.committed ≡ core.new.journalled) }
-    ensures laid { S.tells side.new → S.laid (S.disk side.new).tree }
+    ensures ready { S.tells side.new → OnOk result (S.ready (S.disk side.new)) }
     ensures holds { D.tells dev.new → OnOk result (Holds ring.new (D.state dev.new).disk) }
     ensures exit { S.tells side.new → D.tells dev.new → (fsid : List ℕ) (h : History) → Holding S.image S.reads fsid h core.old (S.disk side.old) ring.old (D.state dev.old).disk
         → AreDue h core.old.journalled waiting.now → PairsStand S.image fsid h core.new.journalled (S.disk side.new).may (D.state dev.new).disk }
     ensures done { S.tells side.new → D.tells dev.new → (fsid : List ℕ) (h : History) → Holding S.image S.reads fsid h core.old (S.disk side.old) ring.old (D.state dev.old).disk
         → AreDue h core.old.journalled waiting.now → OnOk result (Holding S.image S.reads fsid h core.new (S.disk side.new) ring.new (D.state dev.new).disk) }
+    ensures undamaged { S.tells side.new → (p : Path) → result ≢ Err (StoreFault.Damaged p) }
     ensures told { S.tells side.new → S.tells side.old }
     ensures honest { D.tells dev.new → D.tells dev.old }
     ensures tree { IsErrOf result StoreFault.Tree → Counted (S.disk side.old).faults (S.disk side.new).faults }

@@ -1,10 +1,11 @@
 // The numbers of a store between two transactions.
 ghost use Rattle.std.specs.Prelude.{◌≡◌};
-ghost use Rattle.store_turns.specs.Fault.{of_tree, of_journal};
+ghost use Rattle.store_turns.specs.Fault.{of_index, of_journal};
 
 use fs_model::{Blob, Txn};
+use index_fault::IndexFault;
 use store_journal::JournalFault;
-use tree_api::TreeError;
+use tree_api::TreePath;
 
 /// How operations are done.
 #[derive(Clone, Copy, Debug, PartialEq, Eq)]
@@ -25,8 +26,13 @@ pub struct Numbers {
 }
 
 /// Whose fault it was. The store is mounted again before use.
-#[derive(Clone, Copy, Debug, PartialEq, Eq)]
+#[derive(Debug, Drop)]
 pub enum StoreFault {
+    /// What stands at this path is nothing that a store leaves there.
+    Damaged {
+        /// The path.
+        path: TreePath,
+    },
     /// The tree refused a call.
     Tree,
     /// The device refused a call.
@@ -35,13 +41,14 @@ pub enum StoreFault {
     Memory,
 }
 
-impl From<TreeError> for StoreFault {
-    ghost from_gives = { λ error fault. fault ≡ of_tree error };
+impl From<IndexFault> for StoreFault {
+    ghost from_gives = { λ error fault. fault ≡ of_index error };
 
-    fn from(error: TreeError) -> StoreFault {
+    fn from(error: IndexFault) -> StoreFault {
         match error {
-            TreeError::Memory => StoreFault::Memory,
-            TreeError::Refused => StoreFault::Tree,
+            IndexFault::Memory => StoreFault::Memory,
+            IndexFault::Tree => StoreFault::Tree,
+            IndexFault::Damaged { path } => StoreFault::Damaged { path },
         }
     }
 }

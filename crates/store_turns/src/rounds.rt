@@ -1,6 +1,7 @@
 // One transaction, and room for it.
-ghost use Rattle.std.specs.Prelude.{◌≡◌, ℕ, ◌+◌, ◌-◌, ◌<◌, ◌≤◌, ◌^◌, List, length, OnOk, IsErrOf};
+ghost use Rattle.std.specs.Prelude.{◌≡◌, ◌≢◌, ℕ, ◌+◌, ◌-◌, ◌<◌, ◌≤◌, ◌^◌, List, length, Err, OnOk, IsErrOf};
 ghost use Rattle.fault_count.specs.Counted.{Counted};
+ghost use Rattle.tree_api.specs.Tree.{Path};
 ghost use Rattle.ring_frame.specs.Frame.{need as need_of};
 ghost use Rattle.ring_journal.specs.State.{Holds, free_of};
 ghost use Rattle.store_history.specs.History.{History};
@@ -30,19 +31,20 @@ pub fn make_room<S: Side, D: Device>(
 ) -> Result<(), StoreFault>
     requires counts { Fits core.old ring.old }
     requires extent { (D.state dev.old).size ≡ ring.old.head.size }
-    requires laid { S.tells side.old → S.laid (S.disk side.old).tree }
+    requires ready { S.tells side.old → S.ready (S.disk side.old) }
     requires holds { D.tells dev.old → Holds ring.old (D.state dev.old).disk }
     requires fits { room ≤ ring.old.head.size - 8192 }
     ensures counts { OnOk result (Fits core.new ring.new) }
     ensures room { OnOk result (room ≤ free_of ring.new) }
     ensures size { OnOk result (ring.new.head.size ≡ ring.old.head.size) }
     ensures same { core.new.journalled ≡ core.old.journalled }
-    ensures laid { S.tells side.new → S.laid (S.disk side.new).tree }
+    ensures ready { S.tells side.new → OnOk result (S.ready (S.disk side.new)) }
     ensures holds { D.tells dev.new → OnOk result (Holds ring.new (D.state dev.new).disk) }
     ensures exit { S.tells side.new → D.tells dev.new → (fsid : List ℕ) (h : History) → Holding S.image S.reads fsid h core.old (S.disk side.old) ring.old (D.state dev.old).disk
         → PairsStand S.image fsid h core.new.journalled (S.disk side.new).may (D.state dev.new).disk }
     ensures done { S.tells side.new → D.tells dev.new → (fsid : List ℕ) (h : History) → Holding S.image S.reads fsid h core.old (S.disk side.old) ring.old (D.state dev.old).disk
         → OnOk result (Holding S.image S.reads fsid h core.new (S.disk side.new) ring.new (D.state dev.new).disk) }
+    ensures undamaged { S.tells side.new → (p : Path) → result ≢ Err (StoreFault.Damaged p) }
     ensures told { S.tells side.new → S.tells side.old }
     ensures honest { D.tells dev.new → D.tells dev.old }
     ensures extent { (D.state dev.new).size ≡ (D.state dev.old).size }
@@ -71,7 +73,7 @@ pub fn round<S: Side, D: Device>(
     requires counts { Fits core.old ring.old }
     requires small { core.old.journalled + 1 < 2 ^ 63 }
     requires extent { (D.state dev.old).size ≡ ring.old.head.size }
-    requires laid { S.tells side.old → S.laid (S.disk side.old).tree }
+    requires ready { S.tells side.old → S.ready (S.disk side.old) }
     requires holds { D.tells dev.old → Holds ring.old (D.state dev.old).disk }
     requires short { length payload.now < 2 ^ 32 }
     requires fits { need_of (length payload.now) ≤ ring.old.head.size - 8192 }
@@ -79,12 +81,13 @@ pub fn round<S: Side, D: Device>(
     ensures size { OnOk result (ring.new.head.size ≡ ring.old.head.size) }
     ensures number { OnOk result (core.new.journalled ≡ core.old.journalled + 1) }
     ensures grows { core.old.journalled ≤ core.new.journalled }
-    ensures laid { S.tells side.new → S.laid (S.disk side.new).tree }
+    ensures ready { S.tells side.new → OnOk result (S.ready (S.disk side.new)) }
     ensures holds { D.tells dev.new → OnOk result (Holds ring.new (D.state dev.new).disk) }
     ensures exit { S.tells side.new → D.tells dev.new → (fsid : List ℕ) (h : History) → Holding S.image S.reads fsid h core.old (S.disk side.old) ring.old (D.state dev.old).disk
         → IsDue h core.old.journalled payload.now ops.now → PairsStand S.image fsid h core.new.journalled (S.disk side.new).may (D.state dev.new).disk }
     ensures done { S.tells side.new → D.tells dev.new → (fsid : List ℕ) (h : History) → Holding S.image S.reads fsid h core.old (S.disk side.old) ring.old (D.state dev.old).disk
         → IsDue h core.old.journalled payload.now ops.now → OnOk result (Holding S.image S.reads fsid h core.new (S.disk side.new) ring.new (D.state dev.new).disk) }
+    ensures undamaged { S.tells side.new → (p : Path) → result ≢ Err (StoreFault.Damaged p) }
     ensures told { S.tells side.new → S.tells side.old }
     ensures honest { D.tells dev.new → D.tells dev.old }
     ensures extent { (D.state dev.new).size ≡ (D.state dev.old).size }

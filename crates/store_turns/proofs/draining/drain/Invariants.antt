@@ -13,7 +13,7 @@ invariant-loop-one g l = record {
   size : l.ring.head.size ≡ l.fn.ring.head.size;
   told : g.S.Side.tells l.side → g.S.Side.tells l.fn.side;
   honest : g.D.Device.tells l.dev → g.D.Device.tells l.fn.dev;
-  laid : g.S.Side.tells l.side → g.S.Side.laid (g.S.Side.disk l.side).tree;
+  ready : g.S.Side.tells l.side → g.S.Side.ready (g.S.Side.disk l.side);
   holds : g.D.Device.tells l.dev → Holds l.ring (g.D.Device.state l.dev).disk;
   tree_faults : (g.S.Side.disk l.fn.side).faults ≤ (g.S.Side.disk l.side).faults;
   device_faults : (g.D.Device.state l.fn.dev).faults ≤ (g.D.Device.state l.dev).faults;

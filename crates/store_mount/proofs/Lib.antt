@@ -1,0 +1,7 @@
+mod Told
+mod Going
+mod Ways
+mod Refusals
+mod Carried
+mod Reopened
+mod Numbers

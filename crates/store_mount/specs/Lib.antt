@@ -1,0 +1,4 @@
+pub mod Fault
+pub mod Causes
+pub mod Replays
+pub mod Mounts

@@ -1,0 +1,113 @@
+// What a mount finds before it does any entry again.
+ghost use Rattle.std.specs.Prelude.{◌≡◌, ◌≢◌, ◌+◌, ◌<◌, ◌≤◌, ◌^◌, Some, Err, OnOk, IfOk, IfErr, IsErrOf};
+ghost use Rattle.fault_count.specs.Counted.{Counted};
+ghost use Rattle.tree_api.specs.Disk.{Everywhere, Stays, Still};
+ghost use Rattle.dev_api.specs.Disk.{settled};
+ghost use Rattle.dev_api.specs.Run.{KeepsSince};
+ghost use Rattle.ring_frame.specs.Heads.{head_of};
+ghost use Rattle.ring_images.specs.Held.{ReadsSound, Within};
+ghost use Rattle.ring_journal.specs.State.{IsUnspent, Loaded};
+ghost use Rattle.store_mount.specs.Causes.{Explains, IsFoundFirst, RefusesNumber, RefusesRing};
+
+use crate::fault::{MountFault, load_fault};
+use dev_api::Device;
+use ring_journal::Ring;
+use std::alloc::Global;
+use store_turns::Side;
+
+/// What a mount finds: the ring, of which no entry was told, and the committed number.
+#[derive(Drop)]
+pub struct Found {
+    /// The ring of the journal.
+    pub ring: Ring,
+    /// The number that the tree has.
+    pub committed: u64,
+}
+
+// Syncs the device and loads its ring.
+fn load<D: Device>(dev: &mut D, fsid: &[u8; 16]) -> Result<Ring, MountFault>
+    ensures head { D.tells dev.new → IfOk result (λ ring. head_of (D.state dev.old).disk.reads ≡ Some ring.head) }
+    ensures loaded { D.tells dev.new → IfOk result (λ ring. Loaded ring (D.state dev.new).disk) }
+    ensures same { D.tells dev.new → OnOk result ((D.state dev.new).disk ≡ settled (D.state dev.old).disk.reads) }
+    ensures untold { IfOk result (λ ring. ring.count ≡ 0) }
+    ensures fsid { IfOk result (λ ring. ring.head.fsid ≡ fsid.now) }
+    ensures unspent { IfOk result (λ ring. IsUnspent ring.head) }
+    ensures size { IfOk result (λ ring. ring.head.size ≡ (D.state dev.new).size) }
+    ensures refused { D.tells dev.new → IfErr result (RefusesRing (D.state dev.old).disk.reads fsid.now) }
+    ensures reads { D.tells dev.new → IfErr result (λ fault. IsFoundFirst fault → (D.state dev.new).disk.reads ≡ (D.state dev.old).disk.reads) }
+    ensures crash { D.tells dev.new → ReadsSound (D.state dev.old).disk → KeepsSince (Within (D.state dev.old).disk) (D.state dev.old) (D.state dev.new) }
+    ensures honest { D.tells dev.new → D.tells dev.old }
+    ensures extent { (D.state dev.new).size ≡ (D.state dev.old).size }
+    ensures faults { (D.state dev.old).faults ≤ (D.state dev.new).faults }
+    ensures not_the_tree { IsErrOf result MountFault.Tree → ⊥ }
+    ensures cause { IsErrOf result MountFault.Device → Counted (D.state dev.old).faults (D.state dev.new).faults }
+{
+    match Ring::load(dev, fsid) {
+        Ok(ring) => Ok(ring),
+        Err(fault) => Err(load_fault(fault, fsid)),
+    }
+}
+
+// The committed number of the tree.
+fn committed_number<S: Side>(alloc: Global, side: &mut S) -> Result<u64, MountFault>
+    ensures ready { S.tells side.new → S.ready (S.disk side.old) → S.ready (S.disk side.new) }
+    ensures still { S.tells side.new → Still (S.disk side.old) (S.disk side.new) }
+    ensures number { S.tells side.new → IfOk result (λ n. S.number (S.disk side.old).tree n) }
+    ensures small { IfOk result (λ n. n < 2 ^ 63) }
+    ensures refused { S.tells side.new → IfErr result (RefusesNumber S.number (S.disk side.old).tree) }
+    ensures told { S.tells side.new → S.tells side.old }
+    ensures faults { (S.disk side.old).faults ≤ (S.disk side.new).faults }
+    ensures not_the_device { IsErrOf result MountFault.Device → ⊥ }
+    ensures cause { IsErrOf result MountFault.Tree → Counted (S.disk side.old).faults (S.disk side.new).faults }
+{
+    match side.read_seq(alloc)? {
+        Some(number) => Ok(number),
+        None => Err(MountFault::BadSeq),
+    }
+}
+
+/// Makes both sides stable, loads the ring and reads the committed number. It changes nothing that reads, and brings no
+/// image on either side.
+pub fn find<S: Side, D: Device>(
+    alloc: Global,
+    side: &mut S,
+    dev: &mut D,
+    fsid: &[u8; 16],
+) -> Result<Found, MountFault>
+    requires laid { S.tells side.old → S.laid (S.disk side.old).tree }
+    ensures stays { S.tells side.new → Stays (S.disk side.old) (S.disk side.new) }
+    ensures settled { S.tells side.new → OnOk result (Everywhere (S.disk side.new) (λ t. t ≡ (S.disk side.old).tree)) }
+    ensures ready { S.tells side.new → OnOk result (S.ready (S.disk side.new)) }
+    ensures number { S.tells side.new → IfOk result (λ found. S.number (S.disk side.old).tree found.committed) }
+    ensures small { IfOk result (λ found. found.committed < 2 ^ 63) }
+    ensures head { D.tells dev.new → IfOk result (λ found. head_of (D.state dev.old).disk.reads ≡ Some found.ring.head) }
+    ensures loaded { D.tells dev.new → IfOk result (λ found. Loaded found.ring (D.state dev.new).disk) }
+    ensures same { D.tells dev.new → OnOk result ((D.state dev.new).disk ≡ settled (D.state dev.old).disk.reads) }
+    ensures untold { IfOk result (λ found. found.ring.count ≡ 0) }
+    ensures fsid { IfOk result (λ found. found.ring.head.fsid ≡ fsid.now) }
+    ensures unspent { IfOk result (λ found. IsUnspent found.ring.head) }
+    ensures size { IfOk result (λ found. found.ring.head.size ≡ (D.state dev.new).size) }
+    ensures no_gap { IfOk result (λ found. found.ring.head.seq ≤ found.committed + 1) }
+    ensures refused { S.tells side.new → D.tells dev.new → IfErr result (Explains S.number fsid.now (S.disk side.old).tree (D.state dev.old).disk.reads) }
+    ensures reads { D.tells dev.new → IfErr result (λ fault. IsFoundFirst fault → (D.state dev.new).disk.reads ≡ (D.state dev.old).disk.reads) }
+    ensures crash { D.tells dev.new → ReadsSound (D.state dev.old).disk → KeepsSince (Within (D.state dev.old).disk) (D.state dev.old) (D.state dev.new) }
+    ensures told { S.tells side.new → S.tells side.old }
+    ensures honest { D.tells dev.new → D.tells dev.old }
+    ensures extent { (D.state dev.new).size ≡ (D.state dev.old).size }
+    ensures tree { IsErrOf result MountFault.Tree → Counted (S.disk side.old).faults (S.disk side.new).faults }
+    ensures device { IsErrOf result MountFault.Device → Counted (D.state dev.old).faults (D.state dev.new).faults }
+    ensures tree_faults { (S.disk side.old).faults ≤ (S.disk side.new).faults }
+    ensures device_faults { (D.state dev.old).faults ≤ (D.state dev.new).faults }
+{
+    match side.sync_all() {
+        Ok(()) => {}
+        Err(_) => return Err(MountFault::Tree),
+    }
+    let ring = load(dev, fsid)?;
+    let committed = committed_number(alloc, side)?;
+    let start = ring.start_seq();
+    if start > committed + 1 {
+        return Err(MountFault::JournalGap { start, committed });
+    }
+    Ok(Found { ring, committed })
+}

@@ -1,0 +1,95 @@
+// The entries above the committed number are done again.
+ghost use Rattle.std.specs.Prelude.{◌≡◌, ◌≢◌, ◌+◌, ◌<◌, ◌≤◌, List, Ok, Err, OnOk, IfErr, IsErrOf};
+ghost use Rattle.fault_count.specs.Counted.{Counted};
+ghost use Rattle.fs_model.specs.declared.op.Op.{Op};
+ghost use Rattle.txn_codec.specs.Reading.{decoded};
+ghost use Rattle.tree_api.specs.Tree.{Path};
+ghost use Rattle.tree_api.specs.Disk.{Keeps};
+ghost use Rattle.ring_images.specs.Held.{synced};
+ghost use Rattle.ring_journal.specs.State.{Ended, Loaded};
+ghost use Rattle.store_history.specs.History.{end_of};
+ghost use Rattle.store_history.specs.Journal.{Spells, above};
+ghost use Rattle.store_turns.specs.Calls.{WhereReplayed};
+ghost use Rattle.store_turns.specs.declared.numbers.How.TheVariants.{Live, Replay};
+ghost use Rattle.store_mount.specs.Causes.{IsFoundFirst, RefusesEntry, RefusesReplay};
+ghost use Rattle.store_mount.specs.Replays.{WhereSpelled};
+
+use crate::fault::{MountFault, redo_fault};
+use dev_api::Device;
+use ring_journal::{Ring, RingFault, Stored};
+use std::alloc::Global;
+use store_turns::{Side, redo};
+
+// Does the transaction of an entry again, where its number is above the committed one.
+fn redo_entry<S: Side>(
+    alloc: Global,
+    side: &mut S,
+    stored: &Stored,
+    committed: u64,
+) -> Result<(), MountFault>
+    requires ready { S.tells side.old → S.ready (S.disk side.old) }
+    ensures ready { S.tells side.new → OnOk result (S.ready (S.disk side.new)) }
+    ensures skipped { stored.now.seq ≤ committed → side.new ≡ side.old }
+    ensures keeps { S.tells side.new → committed < stored.now.seq → WhereReplayed S.image S.reads committed stored.now.seq stored.now.payload (S.disk side.old)
+        (λ h hi. Keeps (S.image h committed committed hi) (S.disk side.old) (S.disk side.new)) }
+    ensures done { S.tells side.new → committed < stored.now.seq → WhereReplayed S.image S.reads committed stored.now.seq stored.now.payload (S.disk side.old)
+        (λ h hi. OnOk result (S.reads Replay h stored.now.seq (S.disk side.new).tree)) }
+    ensures spelled { committed < stored.now.seq → OnOk result ((ops : List Op) × (decoded stored.now.payload ≡ Ok ops)) }
+    ensures refused { IfErr result (RefusesEntry committed stored.now) }
+    ensures undamaged { S.tells side.new → (p : Path) → result ≢ Err (MountFault.Damaged p) }
+    ensures told { S.tells side.new → S.tells side.old }
+    ensures faults { (S.disk side.old).faults ≤ (S.disk side.new).faults }
+    ensures cause { IsErrOf result MountFault.Tree → Counted (S.disk side.old).faults (S.disk side.new).faults }
+{
+    match redo(alloc, side, stored.seq, stored.payload.slice(), committed) {
+        Ok(()) => Ok(()),
+        Err(fault) => Err(redo_fault(fault, stored.seq)),
+    }
+}
+
+/// Does each entry above the committed number again, in order, up to the last one, and reads each when its turn comes. A
+/// crash at any moment leaves a tree on its way through these entries, and after `Ok` it reads as they leave it. The
+/// device stays as it is.
+pub fn replay<S: Side, D: Device>(
+    alloc: Global,
+    side: &mut S,
+    ring: &mut Ring,
+    dev: &mut D,
+    committed: u64,
+) -> Result<(), MountFault>
+    requires extent { (D.state dev.old).size ≡ ring.old.head.size }
+    requires loaded { D.tells dev.old → Loaded ring.old (D.state dev.old).disk }
+    requires untold { ring.old.count ≡ 0 }
+    requires no_gap { ring.old.head.seq ≤ committed + 1 }
+    requires ready { S.tells side.old → S.ready (S.disk side.old) }
+    ensures keeps { S.tells side.new → D.tells dev.new → WhereSpelled S.image committed ring.old.head.seq (synced (D.state dev.old).disk) (S.disk side.old)
+        (λ h. Keeps (S.image h committed committed (end_of h)) (S.disk side.old) (S.disk side.new)) }
+    ensures done { S.tells side.new → D.tells dev.new → WhereSpelled S.image committed ring.old.head.seq (synced (D.state dev.old).disk) (S.disk side.old)
+        (λ h. OnOk result (S.reads Live h (end_of h) (S.disk side.new).tree)) }
+    ensures spelled { D.tells dev.new → OnOk result ((txns : List (List Op)) × Spells (above committed ring.old.head.seq (synced (D.state dev.old).disk)) txns) }
+    ensures ended { D.tells dev.new → OnOk result (Ended ring.new (D.state dev.new).disk) }
+    ensures ready { S.tells side.new → OnOk result (S.ready (S.disk side.new)) }
+    ensures head { ring.new.head ≡ ring.old.head }
+    ensures disk { D.tells dev.new → (D.state dev.new).disk ≡ (D.state dev.old).disk }
+    ensures past { D.tells dev.new → (D.state dev.new).past ≡ (D.state dev.old).past }
+    ensures refused { D.tells dev.new → IfErr result (RefusesReplay committed ring.old.head.seq (synced (D.state dev.old).disk)) }
+    ensures late { IfErr result (λ fault. IsFoundFirst fault → ⊥) }
+    ensures undamaged { S.tells side.new → (p : Path) → result ≢ Err (MountFault.Damaged p) }
+    ensures told { S.tells side.new → S.tells side.old }
+    ensures honest { D.tells dev.new → D.tells dev.old }
+    ensures extent { (D.state dev.new).size ≡ (D.state dev.old).size }
+    ensures tree { IsErrOf result MountFault.Tree → Counted (S.disk side.old).faults (S.disk side.new).faults }
+    ensures device { IsErrOf result MountFault.Device → Counted (D.state dev.old).faults (D.state dev.new).faults }
+    ensures tree_faults { (S.disk side.old).faults ≤ (S.disk side.new).faults }
+    ensures device_faults { (D.state dev.old).faults ≤ (D.state dev.new).faults }
+{
+    loop {
+        let stored = match ring.next(alloc, dev) {
+            Ok(Some(stored)) => stored,
+            Ok(None) => return Ok(()),
+            Err(RingFault::Dev) => return Err(MountFault::Device),
+            Err(_) => return Err(MountFault::Memory),
+        };
+        redo_entry(alloc, side, &stored, committed)?;
+    }
+}
