@@ -7,3 +7,4 @@ pub mod Moving
 pub mod Edits
 pub mod Makes
 pub mod Fresh
+pub mod Lines

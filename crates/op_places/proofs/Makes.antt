@@ -3,6 +3,7 @@ use Rattle.std.proofs.Common.{◌≡◌, ◌≢◌, ◌⊎◌, inl, inr, ⊎_eli
 use Rattle.std.specs.Prelude.{slice_get}
 use Rattle.std.specs.FinMap as fin
 use Rattle.fs_names.specs.declared.coll.Coll.{Coll}
+use Rattle.fs_names.specs.declared.coll.Coll.TheVariants.{Meta}
 use Rattle.fs_names.specs.declared.settings.Settings.{Settings}
 use Rattle.fs_names.specs.Reading.{CollFits}
 use Rattle.fs_model.specs.declared.op.Op.{Op}
@@ -29,17 +30,11 @@ use Rattle.op_places.proofs.Cells.{Holds, at_each, holds_lower, holds_along, hol
 use Rattle.op_places.proofs.Shown.{there_is, missing_is, unfit_is, guard_there, guard_missing, guard_same, cell_none, whole_stays, empty_stays, there_stays, cell_stays}
 use Rattle.op_places.proofs.Moving.{past_absent, coll_next, coll_by, past_next}
 
--- One collection stays, or P holds of it; all others stay.
+-- Each collection stays, or it is this one and P holds.
 module _ (set : Settings) (O : Objects) (ops : List Op) (k : ℕ) (c : Coll) (e f : Tree) (past : PastOps set O ops k e) (P : Type 0)
-    (here : CollStays set c e f ⊎ P) (others : (d : Coll) → CollFits d → d ≢ c → CollStays set d e f)
+    (which : (d : Coll) → CollFits d → CollStays set d e f ⊎ ((d ≡ c) × P))
     (whole_here : P → Whole set (dir_of c) f) (empty_here : P → dir_guard f c ≡ None → IsEmpty set c f) (coll_here : P → CollAt O ops k c (is_there f c))
     (cell_here : P → (W : Maps) → AreMaps set f W → (x : Cell) → x.c ≡ c → Holds O ops (guards_in (counts_of ops) (shown W f) x) k x (cells_in (shown W f) x)) where
-  which : (d : Coll) → CollFits d → CollStays set d e f ⊎ ((d ≡ c) × P)
-  which d fits = ⊎_elim
-      (λ (is, same). ⊎_elim (λ stays. inl (subst (λ (b : Coll). CollStays set b e f) (sym same) stays)) (λ p. inr (same, p)) here)
-      (λ (not, differ). inl (others d fits differ))
-      (two_colls d c)
-
   module _ (W : Maps) (of_f : AreMaps set f W) (x : Cell) where
     abbrev E : Maps
     E = maps set e past.whole
@@ -83,6 +78,19 @@ module _ (set : Settings) (O : Objects) (ops : List Op) (k : ℕ) (c : Coll) (e 
         (which d fits);
   }
 
+-- all stay
+pub past_stays : (set : Settings) (O : Objects) (ops : List Op) (k : ℕ) (e f : Tree) → ((c : Coll) → CollFits c → CollStays set c e f) → PastOps set O ops k e → PastOps set O ops k f
+past_stays set O ops k e f stays past =
+    changes set O ops k Meta e f past ⊥ (λ d fits. inl (stays d fits)) (λ none. absurd none) (λ none is. absurd none) (λ none. absurd none) (λ none W of_f x at. absurd none)
+
+-- one may do otherwise
+one_may : (set : Settings) (c : Coll) (e f : Tree) (P : Type 0) → CollStays set c e f ⊎ P → ((d : Coll) → CollFits d → d ≢ c → CollStays set d e f)
+    → (d : Coll) → CollFits d → CollStays set d e f ⊎ ((d ≡ c) × P)
+one_may set c e f P here others d fits = ⊎_elim
+    (λ (is, same). ⊎_elim (λ stays. inl (subst (λ (b : Coll). CollStays set b e f) (sym same) stays)) (λ p. inr (same, p)) here)
+    (λ (not, differ). inl (others d fits differ))
+    (two_colls d c)
+
 -- the collection is made
 module _ (set : Settings) (O : Objects) (ops : List Op) (k : ℕ) (c : Coll) (fits : CollFits c) (plain : IsPlain O ops) (is : slice_get ops k ≡ Some (MkColl c)) where
   made_then : fin.contains_key (after_ops O ops (suc k)) c ≡ true
@@ -108,7 +116,7 @@ module _ (set : Settings) (O : Objects) (ops : List Op) (k : ℕ) (c : Coll) (fi
         (holds_lower O ops (guards_in (counts_of ops) (shown E e) x) 0 l x (cells_in (shown E e) x) (omega arith) ((past.cells E of_e).stands x))
 
     pub makes_image : PastOps set O ops l f
-    makes_image = changes set O ops l c e f past (Comes set c e f) goes.here goes.others
+    makes_image = changes set O ops l c e f past (Comes set c e f) (one_may set c e f (Comes set c e f) goes.here goes.others)
         (λ comes. comes.empty.whole) (λ comes none. comes.empty)
         (λ comes. coll_by O ops k l (MkColl c) c (is_there f c) is (omega (arith, le)) (comes_there comes ∙ sym made_then)) comes_cell
 
@@ -135,7 +143,7 @@ module _ (set : Settings) (O : Objects) (ops : List Op) (k : ℕ) (c : Coll) (pl
         (holds_gone O ops plain l x (omega (arith, le, to_come x same)))
 
     pub drops_image : PastOps set O ops l f
-    drops_image = changes set O ops l c e f past (IsGone set c f) goes.here goes.others
+    drops_image = changes set O ops l c e f past (IsGone set c f) (one_may set c e f (IsGone set c f) goes.here goes.others)
         (λ gone. gone.empty.whole) (λ gone none. gone.empty)
         (λ gone. coll_by O ops k l (RmColl c) c (is_there f c) is (omega (arith, le)) (missing_is f c gone.none ∙ sym gone_now)) gone_cell
 

@@ -28,12 +28,10 @@ use Rattle.tree_stands.specs.Trees.{Maps, AreMaps, shown}
 use Rattle.tree_stands.proofs.Trees.{maps, maps_are}
 use Rattle.op_places.specs.Line.{line_of, after_ops, makes, takes, gone_in, counts_of, IsPlain}
 use Rattle.op_places.specs.Places.{is_there, CollAt, PastOps}
-use Rattle.op_places.specs.Laws.{LineLaw}
 use Rattle.op_places.proofs.Colls.{same_end, next_there, stays_by}
 use Rattle.op_places.proofs.Gone.{is_place, gone_drop, gone_more}
 use Rattle.op_places.proofs.Line.{after_more, after_longer, after_is, act_is, is_act, no_source}
 use Rattle.op_places.proofs.Cells.{Holds, at_each, holds_along, holds_gone}
-use Rattle.op_places.proofs.Fresh.{past_none}
 use Rattle.op_places.proofs.Shown.{is_missing, guard_there, guard_missing, cell_none}
 
 -- no place is past the line
@@ -159,15 +157,6 @@ past_once set O P ops t plain other one two =
     (λ c. same_end O P ops c (one.colls c).when (two.colls c).when (sym (one.colls c).is ∙ (two.colls c).is))
     (stands_for set O ops t (maps set t one.whole) (maps_are set t one.whole) plain one)
     (stands_for set P ops t (maps set t one.whole) (maps_are set t one.whole) other two)
-
-pub line_law : LineLaw
-line_law = record {
-  begins = λ set t none. past_none set t none;
-  more = λ set O ops rest k t plain past. past_more set O ops rest k t plain past;
-  back = λ set O ops k l t le past. past_back set O ops k l t le past;
-  rebase = λ set O ops d t plain fits past. past_rebase set O ops d t plain fits past;
-  once = λ set O P ops t plain other one two. past_once set O P ops t plain other one two;
-}
 
 -- a collection that the operation leaves as it is
 pub coll_next : (O : Objects) (ops : List Op) (k : ℕ) (op : Op) (c : Coll) (b : Bool) → slice_get ops k ≡ Some op → makes c op ≡ false → takes c op ≡ false

@@ -18,7 +18,7 @@ use Rattle.tree_stands.specs.Shown.{Paired}
 use Rattle.tree_stands.specs.Trees.{Maps, AreMaps, dir_guard, ForObject}
 use Rattle.tree_stands.specs.Edits.{IsOn, Edits}
 use Rattle.op_effects.specs.Ready.{HasColls}
-use Rattle.op_effects.specs.Collections.{IsGone, Makes, Drops}
+use Rattle.op_effects.specs.Collections.{CollStays, IsGone, Makes, Drops}
 use Rattle.op_places.specs.Line.{after_ops, IsPlain, KeepsColls}
 use Rattle.op_places.specs.Places.{is_there, PastOps}
 
@@ -30,6 +30,9 @@ pub record LineLaw : Type 0 where
       → PastOps set O ops k t → PastOps set O (ops ++ rest) k t
   -- what is past some is past fewer
   pub back : (set : Settings) (O : Objects) (ops : List Op) (k l : ℕ) (t : Tree) → l ≤ k → PastOps set O ops k t → PastOps set O ops l t
+  -- where each collection stays, the tree is where it was
+  pub stays : (set : Settings) (O : Objects) (ops : List Op) (k : ℕ) (e f : Tree) → ((c : Coll) → CollFits c → CollStays set c e f)
+      → PastOps set O ops k e → PastOps set O ops k f
   -- the first operations are forgotten
   pub rebase : (set : Settings) (O : Objects) (ops : List Op) (d : ℕ) (t : Tree) → IsPlain O ops → d ≤ length ops
       → PastOps set O ops d t → PastOps set (after_ops O ops d) (drop d ops) 0 t

@@ -33,7 +33,7 @@ trash_is_none : coll_of (codes "trash") ≡ None
 unfolding coll_of pg_of
 trash_is_none = pg_none _ _
 
-number_is_none : coll_of (codes "commit_op_seq") ≡ None
+pub number_is_none : coll_of (codes "commit_op_seq") ≡ None
 unfolding coll_of pg_of
 number_is_none = pg_none _ _
 

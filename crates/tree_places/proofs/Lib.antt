@@ -4,3 +4,4 @@ pub mod Theory
 pub mod Ready
 pub mod Operations
 pub mod Example
+pub mod Own

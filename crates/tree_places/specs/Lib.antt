@@ -2,3 +2,4 @@ pub mod Line
 pub mod Images
 pub mod Example
 pub mod Laws
+pub mod Own

@@ -13,6 +13,7 @@ ghost use Rattle.commit_point.specs.Number.{IsReady};
 ghost use Rattle.op_effects.specs.Ready.{Ready};
 ghost use Rattle.tree_places.specs.Images.{IsLaid, IsOwn};
 ghost use Rattle.tree_places.specs.Laws.{CollLaw, EditLaw, ExampleLaw, HistoryLaw, TheoryLaw};
+ghost use Rattle.tree_places.specs.Own.{OwnLaw};
 
 use tree_api::FileTree;
 
@@ -42,4 +43,10 @@ pub fn edit_law()
 /// The same where a collection is made, or taken away.
 pub fn coll_law()
     ensures { CollLaw }
+{}
+
+/// What is the store's own stays where a collection changes, and where the committed number is written: then no collection
+/// changes, and an image is one with its number or with this.
+pub fn own_law()
+    ensures { OwnLaw }
 {}

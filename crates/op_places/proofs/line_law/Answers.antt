@@ -1,4 +1,4 @@
-use Rattle.op_places.proofs.Moving.{line_law}
+use Rattle.op_places.proofs.Lines.{line_law}
 use Rattle.op_places.proofs.line_law.Goals as goal
 
 pub returns : goal.returns
