@@ -14,17 +14,17 @@ use Rattle.tree_stands.specs.Shown.{Paired}
 use Rattle.tree_stands.specs.Standing.{ObjectCrash}
 use Rattle.tree_stands.specs.Trees.{Maps, AreMaps, dir_of, ForObject}
 use Rattle.tree_stands.proofs.Trees.{maps, maps_are}
-use Rattle.op_effects.specs.Ready.{HasColls, Ready, OffStays}
+use Rattle.op_effects.specs.Ready.{HasColls, Ready, OffStays, KeepsPlaces}
 use Rattle.op_places.specs.Places.{is_there}
 use Rattle.op_places.specs.Laws.{EditsOne}
 use Rattle.tree_places.specs.Line.{At}
 use Rattle.tree_places.specs.Images.{Image}
 use Rattle.tree_places.specs.Laws.{IsDue}
-use Rattle.tree_places.proofs.Edits.{edit_law}
+use Rattle.tree_places.proofs.Operations.{edit_law}
+use Rattle.tree_places.proofs.Own.{own_law}
 use Rattle.apply_ops.specs.Editing.{edited, file_after}
 use Rattle.apply_ops.specs.Next.{IsNext}
 use Rattle.apply_ops.proofs.Rows.{names_one}
-use Rattle.apply_ops.proofs.Sites.{own_stays, number_stays}
 
 -- calls that change nothing keep what each image has
 pub stays_kept : (P : Tree → Type 0) (old new : Disk) → Sound old → Stays old new → Everywhere old P → Keeps P old new
@@ -46,15 +46,17 @@ module _ (set : Settings) (h : History) (n lo hi k : ℕ) (op : Op) (name : Name
   of_M = maps_are set old.tree next.due.reads.past.whole
 
   image_of : (c : Tree) → From old (ForObject set name (Paired (content (M name.coll) old.tree name.oid) (F (content (M name.coll) old.tree name.oid)))) c
-      → From old (OffStays (dir_of name.coll)) c → Image set h n lo hi c
-  image_of c (e, may, goes) (d, may_d, off) = let was = next.images d may_d in record {
+      → From old (λ e f. OffStays (dir_of name.coll) e f × KeepsPlaces e f) c → Image set h n lo hi c
+  image_of c (e, may, goes) (d, may_d, off, places) =
+      let was = next.images d may_d in
+      let own = own_law.stays d c n (own_law.off name.coll d c off places) was.own was.number in record {
     base = was.base;
-    number = number_stays name.coll d c off n was.number;
-    own = own_stays name.coll d c off was.own;
+    number = own.1;
+    own = own.0;
     past = edit_law.keeps set h hi k op name row F old.tree next.due edits _ next.low M of_M e c (next.images e may).past (ready.colls e may) goes;
   }
 
-  pub keeps_images : ObjectCrash set name F old new → Leaves (OffStays (dir_of name.coll)) old new → Keeps (Image set h n lo hi) old new
+  pub keeps_images : ObjectCrash set name F old new → Leaves (λ e f. OffStays (dir_of name.coll) e f × KeepsPlaces e f) old new → Keeps (Image set h n lo hi) old new
   keeps_images crash off =
       let one = crash M of_M in
       let two = off.any_moment in record {

@@ -25,7 +25,10 @@ pub record Ready (set : Settings) (d : Disk) : Type 0 where
   pub level : (c : Coll) → CollFits c → Level (dir_of c) d
   pub guards : (c : Coll) → CollFits c → GuardsLevel (dir_of c) d
 
--- What stands neither in this directory nor aside is as it was. No directory comes aside.
-pub record OffStays (dir : Path) (e f : Tree) : Type 0 where
-  pub looks : (q : Path) → IsOff dir q → look f q ≡ look e q
-  pub places : (step : List ℕ) → IsFree e (entry aside step) → IsFree f (entry aside step)
+-- what stands neither in this directory nor aside is as it was
+abbrev pub OffStays : Path → Tree → Tree → Type 0
+OffStays dir e f = (q : Path) → IsOff dir q → look f q ≡ look e q
+
+-- no directory comes where files are built
+abbrev pub KeepsPlaces : Tree → Tree → Type 0
+KeepsPlaces e f = (step : List ℕ) → IsFree e (entry aside step) → IsFree f (entry aside step)
