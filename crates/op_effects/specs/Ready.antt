@@ -18,7 +18,7 @@ HasColls t e = (c : Coll) → CollFits c → dir_guard t c ≢ None → dir_guar
 -- Files can be built aside. No image has damage, and each has the collections that read. In each image a file that reads
 -- stands at no other path, with the text and the guard that read.
 pub record Ready (set : Settings) (d : Disk) : Type 0 where
-  pub aside : IsDir d.tree aside
+  pub dir : IsDir d.tree aside
   pub places : (step : List ℕ) → IsFree d.tree (entry aside step)
   pub whole : Everywhere d (AllWhole set)
   pub colls : Everywhere d (HasColls d.tree)
