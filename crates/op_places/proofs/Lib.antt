@@ -1,0 +1,10 @@
+pub mod Colls
+pub mod Gone
+pub mod Line
+pub mod Cells
+pub mod Shown
+pub mod Moving
+pub mod Edits
+pub mod Makes
+pub mod Fresh
+pub mod Lines
