@@ -1,0 +1,40 @@
+-- What a tree shows of a store's history, and of the store itself.
+use Rattle.std.specs.Prelude.{◌≤◌, ℕ, ◌∷◌, ◌++◌, [], List, codes}
+use Rattle.fs_names.specs.declared.settings.Settings.{Settings}
+use Rattle.tree_api.specs.Tree.{Path, Tree, IsDir, IsFree, current}
+use Rattle.lfn_index.specs.Changes.{aside}
+use Rattle.lfn_index.specs.Directory.{entry}
+use Rattle.tree_stands.specs.Trees.{AllWhole}
+use Rattle.commit_point.specs.Number.{number_path, HasNumber}
+use Rattle.store_history.specs.History.{History, end_of}
+use Rattle.store_turns.specs.declared.numbers.How.TheVariants.{Live, Replay}
+use Rattle.store_turns.specs.Theory.{Reads}
+use Rattle.tree_places.specs.Line.{Past}
+
+-- where collections go that are taken away
+abbrev pub trash : Path
+trash = current ++ codes "trash" ∷ []
+
+-- the store's own directories are there, no directory is in the way of a file that is built, nor of the committed number
+pub record IsOwn (t : Tree) : Type 0 where
+  pub building : IsDir t aside
+  pub places : (step : List ℕ) → IsFree t (entry aside step)
+  pub removed : IsDir t trash
+  pub target : IsFree t number_path
+
+-- and no collection has damage
+pub record IsLaid (set : Settings) (t : Tree) : Type 0 where
+  pub own : IsOwn t
+  pub whole : AllWhole set t
+
+-- The committed number of the tree is n, each part of it is past the transactions up to lo, and past none above hi.
+pub record Image (set : Settings) (h : History) (n lo hi : ℕ) (t : Tree) : Type 0 where
+  pub base : h.base ≤ lo
+  pub number : HasNumber t n
+  pub own : IsOwn t
+  pub past : Past set h lo hi t
+
+-- What reads live is past no transaction to come. On replay it may be: that is what a crash left.
+abbrev pub reads : Settings → Reads
+reads set Live h m t = Past set h m m t
+reads set Replay h m t = Past set h m (end_of h) t
