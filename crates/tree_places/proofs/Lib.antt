@@ -5,3 +5,4 @@ pub mod Ready
 pub mod Operations
 pub mod Example
 pub mod Own
+pub mod Underway

@@ -16,12 +16,12 @@ use Rattle.tree_stands.proofs.Only.{off_aside}
 use Rattle.commit_point.specs.Number.{number_path, building, number_file, HasNumber, Renumbers}
 use Rattle.commit_point.specs.Replacing.{Replaces}
 use Rattle.store_history.specs.History.{History}
-use Rattle.op_effects.specs.Ready.{OffStays}
+use Rattle.op_effects.specs.Ready.{OffStays, KeepsPlaces}
 use Rattle.op_effects.specs.Collections.{CollStays}
 use Rattle.op_places.proofs.Makes.{past_stays}
 use Rattle.tree_places.specs.Line.{ops_to, count_to, At}
 use Rattle.tree_places.specs.Images.{trash, IsOwn, Image}
-use Rattle.tree_places.specs.Own.{KeepsPlaces, OwnStays, OwnLaw}
+use Rattle.tree_places.specs.Own.{OwnStays, OwnLaw}
 use Rattle.tree_places.proofs.Example.{number_is_none}
 
 -- what a look tells
@@ -66,16 +66,20 @@ two_not_three a b p step two same =
     let e : 2 ≡ length (entry p step) = ap length same in
     absurd (omega (arith, long, two, e))
 
+-- each of these stands neither in the collection's directory nor among what is built
+off_two : (c : Coll) (b : List ℕ) → ((s : List ℕ) → codes "current" ∷ b ∷ [] ≢ entry (dir_of c) s) × ((s : List ℕ) → codes "current" ∷ b ∷ [] ≢ entry aside s)
+off_two c b = (λ s. two_not_three (codes "current") b (dir_of c) s refl, λ s. two_not_three (codes "current") b aside s refl)
+
 off_stays : (c : Coll) (e f : Tree) → OffStays (dir_of c) e f → KeepsPlaces e f → OwnStays e f
 off_stays c e f goes places = record {
-  building = goes aside (off (codes "aside"));
-  removed = goes trash (off (codes "trash"));
-  number = goes number_path (off (codes "commit_op_seq"));
+  building = goes aside (off_two c (codes "aside"));
+  removed = goes trash (off_two c (codes "trash"));
+  number = goes number_path (off_two c (codes "commit_op_seq"));
   places = places;
 }
-  where
-    off : (b : List ℕ) → ((s : List ℕ) → codes "current" ∷ b ∷ [] ≢ entry (dir_of c) s) × ((s : List ℕ) → codes "current" ∷ b ∷ [] ≢ entry aside s)
-    off b = (λ s. two_not_three (codes "current") b (dir_of c) s refl, λ s. two_not_three (codes "current") b aside s refl)
+
+pub own_dirs : (c : Coll) (e f : Tree) (n : ℕ) → OffStays (dir_of c) e f → IsOwn e → HasNumber e n → ((step : List ℕ) → IsFree f (entry aside step)) → IsOwn f × HasNumber f n
+own_dirs c e f n goes own number places = own_stays e f n (off_stays c e f goes (λ step free. places step)) own number
 
 -- a number is written
 module _ (v : Version) (e f : Tree) (goes : Replaces building number_path v e f) where

@@ -47,7 +47,8 @@ pub record HistoryLaw : Type 0 where
   pub longer : (set : Settings) (h : History) (ops : List Op) (n lo hi : ℕ) (t : Tree) → AreAllowed (at h (end_of h)) ops → NoneCopies ops
       → lo ≤ hi → hi ≤ end_of h → Image set h n lo hi t → Image set (with_txn h ops) n lo hi t
   -- a tree without collections has done none of a store's first transactions
-  pub begins : (set : Settings) (n : ℕ) (t : Tree) → HasNumber t n → IsOwn t → ((c : Coll) → CollFits c → IsGone set c t) → Image set (replay_of n fin.empty []) n n n t
+  pub begins : (set : Settings) (n : ℕ) (t : Tree) → HasNumber t n → IsOwn t → ((c : Coll) → CollFits c → IsGone set c t)
+      → Image set (replay_of n fin.empty []) n n n t
 
 -- a store that was just made has done none of its first transactions
 abbrev pub ExampleLaw : Type 0

@@ -3,3 +3,4 @@ pub mod Images
 pub mod Example
 pub mod Laws
 pub mod Own
+pub mod Underway
