@@ -1,16 +1,25 @@
--- The operation of a history that is done next.
-use Rattle.std.specs.Prelude.{◌≤◌, ℕ}
+-- The next operation of a transaction.
+use Rattle.std.specs.Prelude.{◌≡◌, ℕ, List, slice_get, Some}
 use Rattle.fs_names.specs.declared.settings.Settings.{Settings}
 use Rattle.fs_model.specs.declared.op.Op.{Op}
-use Rattle.tree_api.specs.Disk.{Disk, Everywhere}
+use Rattle.tree_api.specs.Disk.{Disk}
 use Rattle.store_history.specs.History.{History}
-use Rattle.tree_places.specs.Line.{count_to}
-use Rattle.tree_places.specs.Images.{Image}
-use Rattle.tree_places.specs.Laws.{IsDue}
+use Rattle.store_turns.specs.declared.numbers.How.{How}
+use Rattle.tree_places.specs.Underway.{IsTurn, Underway}
 
--- It is the one at k of the line up to transaction hi. What reads is past those before it, and each image is past the
--- transactions up to lo.
-pub record IsNext (set : Settings) (h : History) (n lo hi k : ℕ) (op : Op) (d : Disk) : Type 0 where
-  pub low : count_to h lo ≤ k
-  pub due : IsDue set h hi k op d.tree
-  pub images : Everywhere d (Image set h n lo hi)
+-- a place in a history: that of the operation at i of the transaction seq, with which images go along from lo to hi
+pub record Spot : Type 0 where
+  pub how : How
+  pub h : History
+  pub n : ℕ
+  pub lo : ℕ
+  pub hi : ℕ
+  pub seq : ℕ
+  pub ops : List Op
+  pub i : ℕ
+
+-- the operation is there, and those before it are done
+pub record IsNext (set : Settings) (s : Spot) (op : Op) (d : Disk) : Type 0 where
+  pub turn : IsTurn s.how s.h s.lo s.hi s.seq s.ops
+  pub here : slice_get s.ops s.i ≡ Some op
+  pub now : Underway set s.how s.h s.n s.lo s.hi s.seq s.i d d

@@ -1,19 +1,19 @@
 // Operations on one object.
-ghost use Rattle.std.specs.Prelude.{◌≡◌, ◌≢◌, ℕ, ◌+◌, Some, None, Err, IfOk, OnOk, IsErrOf, IsTrue, IsFalse};
+ghost use Rattle.std.specs.Prelude.{◌≡◌, ◌≢◌, ◌+◌, Some, Err, OnOk, IsErrOf};
 ghost use Rattle.fs_model.specs.Check.{IsWithinLimits};
 ghost use Rattle.tree_api.specs.Counts.{Counts};
-ghost use Rattle.tree_api.specs.Disk.{Keeps, Leaves, Still};
-ghost use Rattle.tree_api.specs.Tree.{Path, IsDir};
-ghost use Rattle.store_history.specs.History.{History};
+ghost use Rattle.tree_api.specs.Disk.{Keeps, Leaves};
+ghost use Rattle.tree_api.specs.Tree.{Path, IsDir, IsFile};
 ghost use Rattle.tree_stands.specs.Names.{Name};
 ghost use Rattle.tree_stands.specs.Standing.{ObjectCrash};
 ghost use Rattle.tree_stands.specs.Trees.{dir_of, ForObject};
-ghost use Rattle.op_effects.specs.Ready.{Ready, OffStays};
-ghost use Rattle.tree_places.specs.Line.{At};
+ghost use Rattle.op_effects.specs.Ready.{Ready, OffStays, KeepsPlaces};
 ghost use Rattle.tree_places.specs.Images.{Image};
+ghost use Rattle.tree_places.specs.Underway.{Underway};
 ghost use Rattle.apply_ops.specs.Editing.{edited, file_after};
-ghost use Rattle.apply_ops.specs.Next.{IsNext};
+ghost use Rattle.apply_ops.specs.Next.{Spot, IsNext};
 
+use crate::looking::is_there;
 use fs_model::Op;
 use fs_names::{Pos, Settings};
 use index_fault::IndexFault;
@@ -35,6 +35,7 @@ fn edit_object<T: FileTree>(
     ensures counts { Counts (IsErrOf result IndexFault.Tree) 4 0 (T.disk tree.old) (T.disk tree.new) }
     ensures crash { T.tells tree.new → (n : Name) → edited op.now ≡ Some n → ObjectCrash set.now n (file_after op.now) (T.disk tree.old) (T.disk tree.new) }
     ensures off { T.tells tree.new → (n : Name) → edited op.now ≡ Some n → Leaves (OffStays (dir_of n.coll)) (T.disk tree.old) (T.disk tree.new) }
+    ensures places { T.tells tree.new → Leaves KeepsPlaces (T.disk tree.old) (T.disk tree.new) }
     ensures done { T.tells tree.new → (n : Name) → edited op.now ≡ Some n → OnOk result (ForObject set.now n (λ x y. y ≡ file_after op.now x) (T.disk tree.old).tree (T.disk tree.new).tree) }
     ensures ready { T.tells tree.new → OnOk result (Ready set.now (T.disk tree.new)) }
     ensures undamaged { T.tells tree.new → (p : Path) → result ≢ Err (IndexFault.Damaged p) }
@@ -56,4 +57,32 @@ fn edit_object<T: FileTree>(
         Op::RmAttrs { c, o } => object_ops::rm_attrs(alloc, tree, set, c, o, pos),
         _ => Ok(()),
     }
+}
+
+/// Does an operation on one object. Nothing is done where the object's collection isn't there.
+///
+/// Answers `Damaged` where a file stands in the collection's place.
+pub fn edit<T: FileTree>(
+    alloc: Global,
+    tree: &mut T,
+    set: &Settings,
+    pos: Pos,
+    op: &Op,
+) -> Result<(), IndexFault>
+    requires ready { T.tells tree.old → Ready set.now (T.disk tree.old) }
+    requires fit { IsWithinLimits op.now }
+    requires edits { (n : Name) × (edited op.now ≡ Some n) }
+    ensures told { T.tells tree.new → T.tells tree.old }
+    ensures counts { Counts (IsErrOf result IndexFault.Tree) 5 0 (T.disk tree.old) (T.disk tree.new) }
+    ensures keeps { T.tells tree.new → (s : Spot) → IsNext set.now s op.now (T.disk tree.old) → Keeps (Image set.now s.h s.n s.lo s.hi) (T.disk tree.old) (T.disk tree.new) }
+    ensures done { T.tells tree.new → (s : Spot) → IsNext set.now s op.now (T.disk tree.old)
+        → OnOk result (Underway set.now s.how s.h s.n s.lo s.hi s.seq (s.i + 1) (T.disk tree.old) (T.disk tree.new)) }
+    ensures ready { T.tells tree.new → OnOk result (Ready set.now (T.disk tree.new)) }
+    ensures damaged { T.tells tree.new → (n : Name) (p : Path) → edited op.now ≡ Some n → IsErrOf result (IndexFault.Damaged p) → (p ≡ dir_of n.coll) × IsFile (T.disk tree.old).tree p }
+{
+    let (coll, _) = op.colls();
+    if !is_there(alloc, tree, &coll)? {
+        return Ok(());
+    }
+    edit_object(alloc, tree, set, pos, op)
 }

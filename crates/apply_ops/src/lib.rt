@@ -6,5 +6,6 @@
 #![tactic(auto)]
 
 mod editing;
+mod looking;
 
 pub use editing::edit;
