@@ -1,6 +1,6 @@
 -- Attributes are set and dropped, one after the other.
-use Rattle.std.proofs.Common.{◌≡◌, ◌⊎◌, inl, inr, ⊎_elim, ℕ, Bool, true, false, cond, ◌||◌, List, [], ◌∷◌, length, get_or, refl, sym, ◌∙◌, ap, subst, arith, Option, Some, None}
-use Rattle.std.specs.Prelude.{Contains, IsSome}
+use Rattle.std.proofs.Common.{◌≡◌, ◌⊎◌, inl, inr, ⊎_elim, ℕ, Bool, true, false, cond, ◌||◌, List, [], ◌∷◌, length, get_or, refl, sym, ◌∙◌, ap, subst, arith, Option, Some, None, Result, IsOk}
+use Rattle.std.specs.Prelude.{IsSome}
 use Rattle.std.specs.List.{fold, list_any}
 use Rattle.std.specs.Str.{bytes_eq}
 use Rattle.std.proofs.lemmas.Bool.{cases_Bool, cases_eq, false≢true}
@@ -12,14 +12,14 @@ use Rattle.fs_model.specs.declared.pair.Pair.{Pair}
 use Rattle.tree_api.specs.Answer.{AreAttrs}
 use Rattle.tree_api.specs.declared.path.AttrName.{AttrName}
 use Rattle.tree_api.specs.Tree.{Path, Version, Names, Tree, IsFile, AttrIs}
-use Rattle.tree_api.specs.Disk.{Disk, Sound, Stays, Leaves}
+use Rattle.tree_api.specs.Disk.{Disk, Sound, Stays, Leaves, Change}
+use Rattle.tree_api.specs.declared.tree.TreeError.{TreeError}
 use Rattle.tree_api.specs.Passing.{OneOf, Passing, Within}
 use Rattle.tree_api.proofs.Images.{same_some}
 use Rattle.tree_api.proofs.Moments.{leaves_wider}
 use Rattle.tree_api.proofs.Nodes.{dec_bytes}
-use Rattle.tree_api.proofs.Passing.{same_version, attr_is_with, still_within, within_start}
+use Rattle.tree_api.proofs.Passing.{same_version, attr_is_with, still_within, within_start, change_leaves, change_ok}
 use Rattle.object_file.specs.Attrs.{attr_name, IsOurs, object_part}
-use Rattle.object_file.specs.Inner.{Settles}
 use Rattle.object_file.specs.Passing.{FileGoes}
 use Rattle.object_file.proofs.Copies.{dec_ours}
 use Rattle.tree_stands.specs.Files.{set_pair, unless_ours, without_ours}
@@ -247,3 +247,19 @@ drop_ends a v0 v names same are within drops = same_version v (without_ours a) w
 
     attrs : (k : List ℕ) → v.attr k ≡ (without_ours a).attr k
     attrs k = ⊎_elim (λ is. ours k is (v0.attr k) refl) (λ not. others k not) (dec_ours k)
+
+module _ {T : Type 0} (p : Path) (n : ℕ) (a b : Version) (name : List ℕ) (ours : IsOurs name) (d0 d1 : Disk) (s0 : Sound d0) (r : Result T TreeError) (change : Change p (AttrIs name None) d0 d1 r) (dropping : Dropping p n a b d0.tree) where
+  pub drop_way : Leaves (Passing n a b) d0 d1
+  drop_way = change_leaves p (AttrIs name None) d0 d1 r s0 change n a b dropping.here (λ v is. attr_within a b (d0.tree.node n) v name None dropping.within is (dropping.none name ours))
+
+  pub drop_settles : IsOk r → Drops b name (d0.tree.node n) (d1.tree.node n)
+  drop_settles done =
+      let is = change_ok p (AttrIs name None) d0 d1 r s0 change n dropping.here done in
+      let gone : (d1.tree.node n).attr name ≡ b.attr name = is.here ∙ sym (dropping.none name ours) in (
+        record { bytes = is.bytes; keeps = λ k e. ⊎_elim (λ at. ap (d1.tree.node n).attr at ∙ gone ∙ ap b.attr (sym at)) (λ not. is.others k not ∙ e) (dec_bytes k name) },
+        λ own. gone,
+      )
+
+pub none_left : (xs : List Pair) → length xs ≡ 0 → xs ≡ []
+none_left [] is = refl
+none_left (x ∷ xs) is = absurd (omega (arith, is))

@@ -1,9 +1,8 @@
-use Rattle.std.proofs.Common.{rules, ◌≡◌, sym, subst, Option}
+use Rattle.std.proofs.Common.{rules, ◌≡◌, subst}
 use Rattle.fs_names.specs.Text.{oid_text}
 use Rattle.tree_api.specs.Tree.{Path}
 use Rattle.index_fault.specs.declared.IndexFault.TheVariants.{Damaged}
-use Rattle.lfn_index.specs.Directory.{Finds, IsBlocked, entry, IsFileOf}
-use Rattle.lfn_index.specs.OneObject.{OnlyOne, Becomes}
+use Rattle.lfn_index.specs.Directory.{Finds, IsBlocked}
 use Rattle.lfn_index.proofs.Known.{handed_on}
 use Rattle.tree_stands.specs.Files.{no_file}
 use Rattle.tree_stands.specs.Trees.{name_at, dir_of, ForObject}
