@@ -1,8 +1,7 @@
 -- Changes of a file that leave alone what isn't its object's.
-use Rattle.std.proofs.Common.{◌≡◌, ℕ, List, [], ◌∷◌, codes, ◌∙◌, arith, refl, Option, Some, None}
+use Rattle.std.proofs.Common.{ℕ, List, [], ◌∷◌, codes, ◌∙◌, arith, refl, Option, Some}
 use Rattle.std.specs.List.{fold}
 use Rattle.fs_model.specs.declared.pair.Pair.{Pair}
-use Rattle.tree_api.specs.Tree.{Version}
 use Rattle.tree_api.specs.Passing.{with_attr}
 use Rattle.tree_api.proofs.Passing.{with_attr_is}
 use Rattle.lfn_index.specs.Directory.{lfn_name}

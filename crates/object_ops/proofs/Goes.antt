@@ -1,5 +1,5 @@
 -- What a crash leaves of one object, over runs of calls.
-use Rattle.std.proofs.Common.{◌≡◌, ◌⊎◌, inl, inr, ⊎_elim, refl, sym, ◌∙◌, ap, subst, Option}
+use Rattle.std.proofs.Common.{◌≡◌, inl, inr, ⊎_elim, sym, ◌∙◌, ap, subst, Option}
 use Rattle.fs_names.specs.declared.settings.Settings.{Settings}
 use Rattle.tree_api.specs.Tree.{Version, Tree}
 use Rattle.tree_api.specs.Disk.{Disk, Sound, Stays, Leaves}
@@ -8,7 +8,6 @@ use Rattle.tree_api.proofs.Renaming.{only_stays}
 use Rattle.lfn_index.specs.Maps.{Map, IsMap, content}
 use Rattle.lfn_index.specs.OneObject.{OnlyOne}
 use Rattle.lfn_index.proofs.Only.{only_same, only_joins, only_wider}
-use Rattle.fs_cells.specs.declared.cell.Part.{Part}
 use Rattle.tree_stands.specs.Names.{Name, NameFits}
 use Rattle.tree_stands.specs.Shown.{seen, Paired}
 use Rattle.tree_stands.specs.Trees.{dir_of, ForObject}

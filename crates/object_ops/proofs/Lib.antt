@@ -1,6 +1,7 @@
 mod Goes
 mod Steps
 mod Standing
+mod Pairs
 mod Passes
 mod Changes
 mod Opening

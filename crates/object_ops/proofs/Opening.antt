@@ -1,14 +1,14 @@
 -- An object's file is looked for, made or taken away.
-use Rattle.std.proofs.Common.{◌≡◌, ◌≢◌, inl, inr, refl, sym, ◌∙◌, ap, subst, List, ℕ, Option, Some, None}
+use Rattle.std.proofs.Common.{◌≡◌, ◌≢◌, refl, sym, ◌∙◌, ap, subst, List, ℕ, Option, Some, None}
 use Rattle.fs_names.specs.declared.settings.Pos.{Pos}
 use Rattle.fs_names.specs.declared.settings.Settings.{Settings}
 use Rattle.fs_names.specs.Text.{oid_text}
-use Rattle.tree_api.specs.Tree.{Path, Version, Tree, held, IsFile, IsDir, IsFree}
+use Rattle.tree_api.specs.Tree.{Path, Version, Tree, held, IsFile}
 use Rattle.tree_api.specs.Disk.{Disk, Sound, Stays, Leaves}
 use Rattle.tree_api.specs.Renaming.{Removes}
 use Rattle.tree_api.proofs.Renaming.{run_after}
 use Rattle.lfn_index.specs.Changes.{aside_at, new_file, MadeAt}
-use Rattle.lfn_index.specs.Directory.{entry, HasFile, StandsAt, IsFileOf}
+use Rattle.lfn_index.specs.Directory.{HasFile, StandsAt}
 use Rattle.lfn_index.specs.Maps.{Map, IsMap, IsInMap, KeepsLevel, KeepsAttrs}
 use Rattle.lfn_index.specs.OneObject.{OnlyOne, StaysOr, Becomes, OneGoes, MapsNew}
 use Rattle.lfn_index.proofs.Only.{only_same}

@@ -1,11 +1,11 @@
 -- A file that is there, or was made, is changed.
-use Rattle.std.proofs.Common.{◌≡◌, ◌⊎◌, inl, inr, ℕ, true, List, length, get_or, refl, sym, ◌∙◌, ap, subst, Option, Some, None}
+use Rattle.std.proofs.Common.{◌≡◌, inl, inr, ℕ, true, List, length, get_or, refl, sym, ◌∙◌, ap, subst, Option, Some, None}
 use Rattle.std.proofs.lemmas.Bool.{cases_eq}
 use Rattle.fs_names.specs.declared.coll.Coll.{Coll}
 use Rattle.fs_names.specs.declared.settings.Settings.{Settings}
 use Rattle.fs_names.specs.Reading.{CollFits}
 use Rattle.fs_names.specs.Text.{oid_text}
-use Rattle.tree_api.specs.Tree.{Path, Version, Tree, Names, held, IsDir, IsFree}
+use Rattle.tree_api.specs.Tree.{Path, Version, Names, held}
 use Rattle.tree_api.specs.Disk.{Disk, Sound, From, Leaves}
 use Rattle.tree_api.specs.Passing.{Passing}
 use Rattle.tree_api.proofs.Images.{same_some}
@@ -18,15 +18,12 @@ use Rattle.lfn_index.specs.Maps.{Level, AttrLevel, Whole}
 use Rattle.lfn_index.specs.OneObject.{OnlyOne}
 use Rattle.lfn_index.proofs.Goes.{goes_beside, goes_attrs, goes_becomes}
 use Rattle.lfn_index.proofs.Only.{only_joins}
-use Rattle.object_file.specs.Attrs.{attr_name}
 use Rattle.object_file.specs.Passing.{FileGoes}
 use Rattle.replay_guard.specs.Guards.{guard_name}
-use Rattle.fs_cells.specs.declared.cell.Part.{Part}
 use Rattle.fs_cells.specs.declared.cell.Part.TheVariants.{Exists, Length, Byte, Attr, OmapHeader, OmapKey}
 use Rattle.fs_cells.specs.Values.{flag, number, content, absent}
 use Rattle.tree_stands.specs.Files.{or_new, touched_file}
 use Rattle.tree_stands.specs.Names.{Name, NameFits}
-use Rattle.tree_stands.specs.Shown.{Paired}
 use Rattle.tree_stands.specs.Standing.{ObjectCrash}
 use Rattle.tree_stands.specs.Trees.{dir_of, ForObject}
 use Rattle.tree_stands.proofs.Files.{new_is_new}

@@ -1,5 +1,5 @@
 -- What stands between operations stands again after a step.
-use Rattle.std.proofs.Common.{◌≡◌, ◌≢◌, ◌⊎◌, inl, inr, ⊎_elim, ℕ, ◌<◌, ◌≤◌, ◌++◌, ◌∷◌, [], List, length, codes, false, refl, sym, ◌∙◌, ap, subst, arith, Option, Some, None}
+use Rattle.std.proofs.Common.{◌≡◌, ◌≢◌, ◌⊎◌, inl, inr, ⊎_elim, ℕ, ◌<◌, ◌≤◌, ◌++◌, ◌∷◌, [], List, length, codes, false, sym, ◌∙◌, ap, subst, arith, Option, Some, None}
 use Rattle.std.proofs.lemmas.Bool.{cases_eq, cases_lt}
 use Rattle.std.proofs.lemmas.List.{same_from_push}
 use Rattle.fs_names.specs.declared.coll.Coll.{Coll}
@@ -12,7 +12,7 @@ use Rattle.tree_api.specs.Disk.{Disk, Sound, Stays, From, Everywhere, Leaves}
 use Rattle.tree_api.specs.Renaming.{Removes}
 use Rattle.tree_api.proofs.Moments.{now_from}
 use Rattle.tree_api.proofs.Nodes.{dec_path}
-use Rattle.lfn_index.specs.Directory.{lfn_name, entry, IsFileOf}
+use Rattle.lfn_index.specs.Directory.{lfn_name, entry}
 use Rattle.lfn_index.specs.Changes.{aside, aside_at, place_name, new_file, MadeAt}
 use Rattle.lfn_index.specs.Maps.{Level, AttrLevel, KeepsLevel, KeepsAttrs}
 use Rattle.lfn_index.specs.OneObject.{OnlyOne, StaysOr, OneGoes}

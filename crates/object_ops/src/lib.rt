@@ -6,10 +6,12 @@
 //! makes anything stable but what building a long name's file does.
 #![tactic(auto)]
 
+mod attributes;
 mod bytes;
 mod finding;
 mod removal;
 
+pub use attributes::{rm_attr, rm_attrs, set_attrs};
 pub use bytes::{truncate, write, zero};
 pub use finding::touch;
 pub use removal::remove;

@@ -2,7 +2,7 @@ use Rattle.std.proofs.Common.{rules, ◌≡◌, IsOk}
 use Rattle.fs_names.specs.Text.{oid_text}
 use Rattle.tree_stands.specs.Files.{with_bytes, cut}
 use Rattle.object_ops.proofs.Changes.{bytes_inside}
-use Rattle.tree_stands.specs.Trees.{name_at, ForObject, dir_of}
+use Rattle.tree_stands.specs.Trees.{name_at, ForObject}
 use Rattle.op_effects.specs.Ready.{Ready}
 use Rattle.object_ops.proofs.Passes.{changed, part_crash, part_off, op_crash, op_off, op_done, op_ready}
 use Rattle.object_ops.proofs.Undamaged.{when_done}

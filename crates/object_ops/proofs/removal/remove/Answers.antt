@@ -1,9 +1,8 @@
-use Rattle.std.proofs.Common.{rules, ◌≡◌, sym, subst, Option}
+use Rattle.std.proofs.Common.{rules, ◌≡◌, subst}
 use Rattle.fs_names.specs.Text.{oid_text}
 use Rattle.tree_api.specs.Tree.{Path}
 use Rattle.index_fault.specs.declared.IndexFault.TheVariants.{Damaged}
-use Rattle.lfn_index.specs.Directory.{Finds, IsBlocked, entry, IsFileOf}
-use Rattle.lfn_index.specs.OneObject.{OnlyOne, Becomes}
+use Rattle.lfn_index.specs.Directory.{Finds, IsBlocked}
 use Rattle.lfn_index.proofs.Known.{handed_on}
 use Rattle.tree_stands.specs.Files.{no_file}
 use Rattle.tree_stands.specs.Trees.{name_at, dir_of, ForObject}
@@ -82,4 +81,3 @@ returns-clause-ready g c = λ t.
     let one = c.unlink.ensures.one t c.args.set.now (dir_of c.args.coll.now) c.args.oid.now stands.0 stands.1 stands.2 (c.name_fits.ensures.oid, stands.3) in
     when_done (Ready c.args.set.now d2) c.unlink.result (λ done.
     gone_ready c.args.set.now n c.name_fits.ensures c.in_ok-dir.dir c.in_ok-dir.ensures d0 d1 s0 s1 stays (c.requires.ready (search rules)) d2 (g.met.T.FileTree.sound c.unlink.new.tree t) c.in-Some.path stands (c.unlink.ensures.leaves t) one (c.unlink.ensures.level t) (c.unlink.ensures.attrs t))
-

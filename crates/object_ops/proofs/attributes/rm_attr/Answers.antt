@@ -1,0 +1,60 @@
+use Rattle.std.proofs.Common.{rules, ◌≡◌, None, IsOk}
+use Rattle.fs_names.specs.Text.{oid_text}
+use Rattle.tree_api.specs.Tree.{AttrIs}
+use Rattle.tree_api.specs.Passing.{with_attr}
+use Rattle.tree_api.proofs.Passing.{attr_is_with}
+use Rattle.object_file.specs.Attrs.{attr_name}
+use Rattle.object_ops.proofs.Changes.{attr_inside}
+use Rattle.object_ops.proofs.Pairs.{goes_along}
+use Rattle.tree_stands.specs.Trees.{name_at, ForObject}
+use Rattle.op_effects.specs.Ready.{Ready}
+use Rattle.object_ops.proofs.Passes.{changed, part_crash, part_off, op_crash, op_off, op_done, op_ready}
+use Rattle.object_ops.proofs.Undamaged.{when_done}
+use Rattle.object_ops.proofs.attributes.rm_attr.Goals as goal
+
+pub returns-in_err-path-clause-crash : goal.returns-in_err-path-clause-crash
+returns-in_err-path-clause-crash g c = λ t.
+    let disk = g.T.FileTree.disk in
+    let n = name_at c.args.coll.now c.args.oid.now in
+    let s0 = g.met.T.FileTree.sound c.args.tree.now (search rules) in
+    part_crash c.args.set.now n c.name_fits.ensures (with_attr (attr_name c.args.name.now) None) (attr_inside c.args.name.now None) (disk c.args.tree.now) (disk c.open.new.tree) (c.open.ensures.goes (search rules))
+
+pub returns-in_err-path-clause-off : goal.returns-in_err-path-clause-off
+returns-in_err-path-clause-off g c = λ t.
+    let disk = g.T.FileTree.disk in
+    let n = name_at c.args.coll.now c.args.oid.now in
+    let s0 = g.met.T.FileTree.sound c.args.tree.now (search rules) in
+    part_off c.args.set.now n c.name_fits.ensures (with_attr (attr_name c.args.name.now) None) (attr_inside c.args.name.now None) (disk c.args.tree.now) (disk c.open.new.tree) (c.open.ensures.goes (search rules)) (c.requires.ready (search rules)) s0
+
+pub returns-clause-crash : goal.returns-clause-crash
+returns-clause-crash g c = λ t.
+    let disk = g.T.FileTree.disk in
+    let n = name_at c.args.coll.now c.args.oid.now in
+    let s0 = g.met.T.FileTree.sound c.args.tree.now (search rules) in
+    op_crash c.args.set.now n c.name_fits.ensures (with_attr (attr_name c.args.name.now) None) (attr_inside c.args.name.now None) (disk c.open.new.tree) (disk c.remove_attr.new.tree) (g.met.T.FileTree.sound c.open.new.tree (search rules)) (g.met.T.FileTree.sound c.remove_attr.new.tree (search rules)) (c.in_ok-path.ensures.ready (search rules)) c.in_ok-path.path (c.in_ok-path.ensures.stands (search rules)) (IsOk c.remove_attr.result)
+    (goes_along c.in_ok-path.path (AttrIs (attr_name c.args.name.now) None) (λ a b. b ≡ with_attr (attr_name c.args.name.now) None a) (disk c.open.new.tree) (disk c.remove_attr.new.tree) (IsOk c.remove_attr.result) (λ a b is. attr_is_with (attr_name c.args.name.now) None a b is) (c.remove_attr.ensures.goes (search rules))) (disk c.args.tree.now) s0 (c.requires.ready (search rules)) (c.open.ensures.goes (search rules)) (c.in_ok-path.ensures.reads (search rules))
+
+pub returns-clause-off : goal.returns-clause-off
+returns-clause-off g c = λ t.
+    let disk = g.T.FileTree.disk in
+    let n = name_at c.args.coll.now c.args.oid.now in
+    let s0 = g.met.T.FileTree.sound c.args.tree.now (search rules) in
+    op_off c.args.set.now n c.name_fits.ensures (with_attr (attr_name c.args.name.now) None) (attr_inside c.args.name.now None) (disk c.open.new.tree) (disk c.remove_attr.new.tree) (g.met.T.FileTree.sound c.open.new.tree (search rules)) (g.met.T.FileTree.sound c.remove_attr.new.tree (search rules)) (c.in_ok-path.ensures.ready (search rules)) c.in_ok-path.path (c.in_ok-path.ensures.stands (search rules)) (IsOk c.remove_attr.result)
+    (goes_along c.in_ok-path.path (AttrIs (attr_name c.args.name.now) None) (λ a b. b ≡ with_attr (attr_name c.args.name.now) None a) (disk c.open.new.tree) (disk c.remove_attr.new.tree) (IsOk c.remove_attr.result) (λ a b is. attr_is_with (attr_name c.args.name.now) None a b is) (c.remove_attr.ensures.goes (search rules))) (disk c.args.tree.now) s0 (c.requires.ready (search rules)) (c.open.ensures.goes (search rules)) (c.in_ok-path.ensures.reads (search rules))
+
+pub returns-clause-done : goal.returns-clause-done
+returns-clause-done g c = λ t.
+    let disk = g.T.FileTree.disk in
+    let n = name_at c.args.coll.now c.args.oid.now in
+    let s0 = g.met.T.FileTree.sound c.args.tree.now (search rules) in
+    when_done (ForObject c.args.set.now n (λ x y. y ≡ changed (with_attr (attr_name c.args.name.now) None) (oid_text c.args.oid.now) x) (disk c.args.tree.now).tree (disk c.remove_attr.new.tree).tree) c.remove_attr.result (λ done.
+    op_done c.args.set.now n c.name_fits.ensures (with_attr (attr_name c.args.name.now) None) (attr_inside c.args.name.now None) (disk c.open.new.tree) (disk c.remove_attr.new.tree) (g.met.T.FileTree.sound c.open.new.tree (search rules)) (g.met.T.FileTree.sound c.remove_attr.new.tree (search rules)) (c.in_ok-path.ensures.ready (search rules)) c.in_ok-path.path (c.in_ok-path.ensures.stands (search rules)) (IsOk c.remove_attr.result)
+    (goes_along c.in_ok-path.path (AttrIs (attr_name c.args.name.now) None) (λ a b. b ≡ with_attr (attr_name c.args.name.now) None a) (disk c.open.new.tree) (disk c.remove_attr.new.tree) (IsOk c.remove_attr.result) (λ a b is. attr_is_with (attr_name c.args.name.now) None a b is) (c.remove_attr.ensures.goes (search rules))) (disk c.args.tree.now) s0 (c.requires.ready (search rules)) (c.open.ensures.goes (search rules)) (c.in_ok-path.ensures.reads (search rules)) done)
+
+pub returns-clause-ready : goal.returns-clause-ready
+returns-clause-ready g c = λ t.
+    let disk = g.T.FileTree.disk in
+    let n = name_at c.args.coll.now c.args.oid.now in
+    let s0 = g.met.T.FileTree.sound c.args.tree.now (search rules) in
+    when_done (Ready c.args.set.now (disk c.remove_attr.new.tree)) c.remove_attr.result (λ done. op_ready c.args.set.now n c.name_fits.ensures (with_attr (attr_name c.args.name.now) None) (attr_inside c.args.name.now None) (disk c.open.new.tree) (disk c.remove_attr.new.tree) (g.met.T.FileTree.sound c.open.new.tree (search rules)) (g.met.T.FileTree.sound c.remove_attr.new.tree (search rules)) (c.in_ok-path.ensures.ready (search rules)) c.in_ok-path.path (c.in_ok-path.ensures.stands (search rules)) (IsOk c.remove_attr.result)
+    (goes_along c.in_ok-path.path (AttrIs (attr_name c.args.name.now) None) (λ a b. b ≡ with_attr (attr_name c.args.name.now) None a) (disk c.open.new.tree) (disk c.remove_attr.new.tree) (IsOk c.remove_attr.result) (λ a b is. attr_is_with (attr_name c.args.name.now) None a b is) (c.remove_attr.ensures.goes (search rules))))
