@@ -5,9 +5,9 @@ ghost use Rattle.tree_api.specs.Counts.{Counts};
 ghost use Rattle.tree_api.specs.Disk.{Still};
 ghost use Rattle.tree_stands.specs.Trees.{dir_of};
 
-use coll_ops::coll_path;
 use fs_names::Coll;
 use index_fault::IndexFault;
+use op_effects::coll_path;
 use std::alloc::Global;
 use tree_api::{FileTree, Kind};
 

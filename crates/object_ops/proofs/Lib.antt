@@ -1,5 +1,4 @@
 mod Goes
-mod Steps
 mod Standing
 mod Pairs
 mod Passes

@@ -12,10 +12,11 @@ ghost use Rattle.tree_stands.specs.Trees.{dir_of, name_at, ForObject};
 ghost use Rattle.op_effects.specs.Ready.{Ready, OffStays};
 ghost use Rattle.object_ops.specs.Object.{GoesBy, ReadsBy};
 
-use fs_names::{Coll, Oid, Pos, Settings, encode_coll};
+use fs_names::{Coll, Oid, Pos, Settings};
 use index_fault::IndexFault;
 use lfn_index::{find, make};
-use std::alloc::{AllocError, Global};
+use op_effects::coll_path;
+use std::alloc::Global;
 use tree_api::{FileTree, TreePath};
 
 /// Values of the types can have this name.
@@ -24,16 +25,6 @@ pub(crate) fn name_fits(coll: &Coll, oid: &Oid)
 {
     coll.fits();
     oid.fits();
-}
-
-/// The collection's directory.
-#[tactic(auto, using(crate::proofs::Steps::coll_step))]
-pub(crate) fn coll_path(alloc: Global, coll: &Coll) -> Result<TreePath, AllocError>
-    ensures { IfOk result (λ path. path ≡ dir_of coll.now) }
-{
-    let text = encode_coll(alloc, coll)?;
-    let current = TreePath::root(alloc).join(b"current")?;
-    current.join(text.slice())
 }
 
 /// The path of the object's file, which is made where there is none.

@@ -8,10 +8,11 @@ ghost use Rattle.tree_stands.specs.Standing.{ObjectCrash};
 ghost use Rattle.tree_stands.specs.Trees.{dir_of, name_at, ForObject};
 ghost use Rattle.op_effects.specs.Ready.{Ready, OffStays};
 
-use crate::finding::{coll_path, name_fits};
+use crate::finding::name_fits;
 use fs_names::{Coll, Oid, Settings};
 use index_fault::IndexFault;
 use lfn_index::{find, unlink};
+use op_effects::coll_path;
 use std::alloc::Global;
 use tree_api::FileTree;
 
