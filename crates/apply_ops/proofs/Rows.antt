@@ -1,5 +1,5 @@
 -- What each operation on one object does, as a row of the theory of replay.
-use Rattle.std.proofs.Common.{◌≡◌, ◌≢◌, ℕ, List, [], ◌∷◌, length, refl, sym, ap, subst, Option, Some, None}
+use Rattle.std.proofs.Common.{◌≡◌, ◌≢◌, ℕ, List, [], ◌∷◌, length, refl, sym, ◌∙◌, ap, subst, Option, Some, None}
 use Rattle.std.specs.Prelude.{slice_index_or}
 use Rattle.fs_names.specs.Text.{oid_text}
 use Rattle.fs_names.specs.declared.coll.Coll.{Coll}
@@ -38,6 +38,11 @@ carried P m n is p = subst P (one m n is) p
   where
     one : (a b : Name) → Some a ≡ Some b → a ≡ b
     one a b e = cc
+
+-- what is said of an operation's object and its file is said in other words
+pub on_its_name : (op same : Op) (m n : Name) → op ≡ same → edited same ≡ Some m → edited op ≡ Some n
+    → (P : Name → (Option Version → Option Version) → Type 0) → P m (file_after same) → P n (file_after op)
+on_its_name op same m n is here there P p = carried (λ o. P o (file_after op)) m n (sym here ∙ sym (ap edited is) ∙ there) (subst (λ o. P m (file_after o)) (sym is) p)
 
 -- the collection is there, and the name can be
 abbrev Wants : Op → Tree → Name → Type 0

@@ -1,5 +1,5 @@
 // Whether a collection is there.
-ghost use Rattle.std.specs.Prelude.{◌≡◌, ◌≢◌, IfOk, IfSome, IsErrOf, MatchBool, None};
+ghost use Rattle.std.specs.Prelude.{◌≡◌, true, false, IfOk, IsErrOf, None};
 ghost use Rattle.tree_api.specs.Tree.{Path, IsDir, IsFile};
 ghost use Rattle.tree_api.specs.Counts.{Counts};
 ghost use Rattle.tree_api.specs.Disk.{Still};

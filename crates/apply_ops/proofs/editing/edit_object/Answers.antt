@@ -1,0 +1,74 @@
+-- Each arm speaks of the object that its operation names.
+use Rattle.std.proofs.Common.{rules, ap, refl}
+use Rattle.fs_names.specs.declared.settings.Settings.{Settings}
+use Rattle.tree_api.specs.Disk.{Disk}
+use Rattle.tree_stands.specs.Standing.{ObjectCrash}
+use Rattle.tree_stands.specs.Trees.{name_at}
+use Rattle.apply_ops.specs.Editing.{edited}
+use Rattle.apply_ops.proofs.Rows.{on_its_name}
+use Rattle.apply_ops.proofs.editing.edit_object.Goals as goal
+
+pub touch-requires-clause-there : goal.touch-requires-clause-there
+touch-requires-clause-there g c = λ tells. c.requires.there tells (name_at c.in-Touch.c c.in-Touch.o) (ap edited c.in-Touch.is)
+
+pub write-requires-clause-there : goal.write-requires-clause-there
+write-requires-clause-there g c = λ tells. c.requires.there tells (name_at c.in-Write.c c.in-Write.o) (ap edited c.in-Write.is)
+
+pub zero-requires-clause-there : goal.zero-requires-clause-there
+zero-requires-clause-there g c = λ tells. c.requires.there tells (name_at c.in-Zero.c c.in-Zero.o) (ap edited c.in-Zero.is)
+
+pub truncate-requires-clause-there : goal.truncate-requires-clause-there
+truncate-requires-clause-there g c = λ tells. c.requires.there tells (name_at c.in-Truncate.c c.in-Truncate.o) (ap edited c.in-Truncate.is)
+
+pub remove-requires-clause-there : goal.remove-requires-clause-there
+remove-requires-clause-there g c = λ tells. c.requires.there tells (name_at c.in-Remove.c c.in-Remove.o) (ap edited c.in-Remove.is)
+
+pub set_attrs-requires-clause-there : goal.set_attrs-requires-clause-there
+set_attrs-requires-clause-there g c = λ tells. c.requires.there tells (name_at c.in-SetAttrs.c c.in-SetAttrs.o) (ap edited c.in-SetAttrs.is)
+
+pub rm_attr-requires-clause-there : goal.rm_attr-requires-clause-there
+rm_attr-requires-clause-there g c = λ tells. c.requires.there tells (name_at c.in-RmAttr.c c.in-RmAttr.o) (ap edited c.in-RmAttr.is)
+
+pub rm_attrs-requires-clause-there : goal.rm_attrs-requires-clause-there
+rm_attrs-requires-clause-there g c = λ tells. c.requires.there tells (name_at c.in-RmAttrs.c c.in-RmAttrs.o) (ap edited c.in-RmAttrs.is)
+
+pub returns-in-Touch-clause-crash : goal.returns-in-Touch-clause-crash
+returns-in-Touch-clause-crash g c = λ tells n is.
+    on_its_name c.args.op.now _ (name_at c.in-Touch.c c.in-Touch.o) n c.in-Touch.is refl is (λ m F. ObjectCrash c.args.set.now m F (g.T.FileTree.disk c.args.tree.now) (g.T.FileTree.disk c.touch.new.tree))
+    (c.touch.ensures.crash tells)
+
+pub returns-in-Write-clause-crash : goal.returns-in-Write-clause-crash
+returns-in-Write-clause-crash g c = λ tells n is.
+    on_its_name c.args.op.now _ (name_at c.in-Write.c c.in-Write.o) n c.in-Write.is refl is (λ m F. ObjectCrash c.args.set.now m F (g.T.FileTree.disk c.args.tree.now) (g.T.FileTree.disk c.write.new.tree))
+    (c.write.ensures.crash tells)
+
+pub returns-in-Zero-clause-crash : goal.returns-in-Zero-clause-crash
+returns-in-Zero-clause-crash g c = λ tells n is.
+    on_its_name c.args.op.now _ (name_at c.in-Zero.c c.in-Zero.o) n c.in-Zero.is refl is (λ m F. ObjectCrash c.args.set.now m F (g.T.FileTree.disk c.args.tree.now) (g.T.FileTree.disk c.zero.new.tree))
+    (c.zero.ensures.crash tells)
+
+pub returns-in-Truncate-clause-crash : goal.returns-in-Truncate-clause-crash
+returns-in-Truncate-clause-crash g c = λ tells n is.
+    on_its_name c.args.op.now _ (name_at c.in-Truncate.c c.in-Truncate.o) n c.in-Truncate.is refl is (λ m F. ObjectCrash c.args.set.now m F (g.T.FileTree.disk c.args.tree.now) (g.T.FileTree.disk c.truncate.new.tree))
+    (c.truncate.ensures.crash tells)
+
+pub returns-in-Remove-clause-crash : goal.returns-in-Remove-clause-crash
+returns-in-Remove-clause-crash g c = λ tells n is.
+    on_its_name c.args.op.now _ (name_at c.in-Remove.c c.in-Remove.o) n c.in-Remove.is refl is (λ m F. ObjectCrash c.args.set.now m F (g.T.FileTree.disk c.args.tree.now) (g.T.FileTree.disk c.remove.new.tree))
+    (c.remove.ensures.crash tells)
+
+pub returns-in-SetAttrs-clause-crash : goal.returns-in-SetAttrs-clause-crash
+returns-in-SetAttrs-clause-crash g c = λ tells n is.
+    on_its_name c.args.op.now _ (name_at c.in-SetAttrs.c c.in-SetAttrs.o) n c.in-SetAttrs.is refl is (λ m F. ObjectCrash c.args.set.now m F (g.T.FileTree.disk c.args.tree.now) (g.T.FileTree.disk c.set_attrs.new.tree))
+    (c.set_attrs.ensures.crash tells)
+
+pub returns-in-RmAttr-clause-crash : goal.returns-in-RmAttr-clause-crash
+returns-in-RmAttr-clause-crash g c = λ tells n is.
+    on_its_name c.args.op.now _ (name_at c.in-RmAttr.c c.in-RmAttr.o) n c.in-RmAttr.is refl is (λ m F. ObjectCrash c.args.set.now m F (g.T.FileTree.disk c.args.tree.now) (g.T.FileTree.disk c.rm_attr.new.tree))
+    (c.rm_attr.ensures.crash tells)
+
+pub returns-in-RmAttrs-clause-crash : goal.returns-in-RmAttrs-clause-crash
+returns-in-RmAttrs-clause-crash g c = λ tells n is.
+    on_its_name c.args.op.now _ (name_at c.in-RmAttrs.c c.in-RmAttrs.o) n c.in-RmAttrs.is refl is (λ m F. ObjectCrash c.args.set.now m F (g.T.FileTree.disk c.args.tree.now) (g.T.FileTree.disk c.rm_attrs.new.tree))
+    (c.rm_attrs.ensures.crash tells)
+
