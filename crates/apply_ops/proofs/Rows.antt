@@ -5,7 +5,7 @@ use Rattle.fs_names.specs.Text.{oid_text}
 use Rattle.fs_names.specs.declared.coll.Coll.{Coll}
 use Rattle.fs_model.specs.declared.op.Op.{Op}
 use Rattle.fs_model.specs.declared.op.Op.TheVariants.{Touch, Write, Zero, Truncate, Remove, SetAttrs, RmAttr, RmAttrs, Clone, CloneRange, MoveRename, MkColl, RmColl, OmapClear, OmapSet, OmapRemove, OmapRange}
-use Rattle.fs_model.specs.Named.{colls_named, made}
+use Rattle.fs_model.specs.Named.{colls_named, made, few, first_and_second}
 use Rattle.tree_api.specs.Tree.{Version, Tree}
 use Rattle.replay_laws.specs.Replay.{leaves}
 use Rattle.fs_cells.specs.declared.cell.Part.{Part}
@@ -92,3 +92,10 @@ names_one (OmapClear c o) n is = absurd (none_is n is)
 names_one (OmapSet c o header pairs) n is = absurd (none_is n is)
 names_one (OmapRemove c o keys) n is = absurd (none_is n is)
 names_one (OmapRange c o from to) n is = absurd (none_is n is)
+
+-- the collection that it names first is the object's
+pub named_coll : (op : Op) (n : Name) → edited op ≡ Some n → (r : Coll × Option Coll) → first_and_second r ≡ colls_named op → r.0 ≡ n.coll
+named_coll op n is r named = head r.0 n.coll (few r.1) [] (named ∙ (names_one op n is).0)
+  where
+    head : (a b : Coll) (as bs : List Coll) → a ∷ as ≡ b ∷ bs → a ≡ b
+    head a b as bs e = cc

@@ -4,7 +4,7 @@ ghost use Rattle.fs_model.specs.Check.{IsWithinLimits};
 ghost use Rattle.tree_api.specs.Counts.{Counts};
 ghost use Rattle.tree_api.specs.Disk.{Keeps, Leaves};
 ghost use Rattle.tree_api.specs.Tree.{Path, IsDir, IsFile};
-ghost use Rattle.tree_stands.specs.Names.{Name};
+ghost use Rattle.tree_stands.specs.Names.{Name, NameFits};
 ghost use Rattle.tree_stands.specs.Standing.{ObjectCrash};
 ghost use Rattle.tree_stands.specs.Trees.{dir_of, ForObject};
 ghost use Rattle.op_effects.specs.Ready.{Ready, OffStays, KeepsPlaces};
@@ -19,6 +19,26 @@ use fs_names::{Pos, Settings};
 use index_fault::IndexFault;
 use std::alloc::Global;
 use tree_api::FileTree;
+
+// Values of the types can have the object's name.
+fn name_fits(op: &Op)
+    ensures { (n : Name) → edited op.now ≡ Some n → NameFits n }
+{
+    match op {
+        Op::Touch { c, o }
+        | Op::Write { c, o, .. }
+        | Op::Zero { c, o, .. }
+        | Op::Truncate { c, o, .. }
+        | Op::Remove { c, o }
+        | Op::SetAttrs { c, o, .. }
+        | Op::RmAttr { c, o, .. }
+        | Op::RmAttrs { c, o } => {
+            c.fits();
+            o.fits();
+        }
+        _ => {}
+    }
+}
 
 // The object's collection is there.
 fn edit_object<T: FileTree>(
@@ -80,6 +100,7 @@ pub fn edit<T: FileTree>(
     ensures ready { T.tells tree.new → OnOk result (Ready set.now (T.disk tree.new)) }
     ensures damaged { T.tells tree.new → (n : Name) (p : Path) → edited op.now ≡ Some n → IsErrOf result (IndexFault.Damaged p) → (p ≡ dir_of n.coll) × IsFile (T.disk tree.old).tree p }
 {
+    name_fits(op);
     let (coll, _) = op.colls();
     if !is_there(alloc, tree, &coll)? {
         return Ok(());

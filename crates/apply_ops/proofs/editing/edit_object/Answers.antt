@@ -1,7 +1,8 @@
 -- Each arm speaks of the object that its operation names.
-use Rattle.std.proofs.Common.{rules, ap, refl}
-use Rattle.fs_names.specs.declared.settings.Settings.{Settings}
-use Rattle.tree_api.specs.Disk.{Disk}
+use Rattle.std.proofs.Common.{rules, ℕ, List, ap, refl, subst}
+use Rattle.fs_names.specs.Text.{oid_text}
+use Rattle.fs_model.specs.declared.pair.Pair.{Pair}
+use Rattle.tree_stands.specs.Files.{written_file, attrs_file, attr_gone_file}
 use Rattle.tree_stands.specs.Standing.{ObjectCrash}
 use Rattle.tree_stands.specs.Trees.{name_at}
 use Rattle.apply_ops.specs.Editing.{edited}
@@ -40,7 +41,7 @@ returns-in-Touch-clause-crash g c = λ tells n is.
 pub returns-in-Write-clause-crash : goal.returns-in-Write-clause-crash
 returns-in-Write-clause-crash g c = λ tells n is.
     on_its_name c.args.op.now _ (name_at c.in-Write.c c.in-Write.o) n c.in-Write.is refl is (λ m F. ObjectCrash c.args.set.now m F (g.T.FileTree.disk c.args.tree.now) (g.T.FileTree.disk c.write.new.tree))
-    (c.write.ensures.crash tells)
+    (subst (λ (b : List ℕ). ObjectCrash c.args.set.now (name_at c.in-Write.c c.in-Write.o) (written_file (oid_text c.in-Write.o) c.in-Write.at b) (g.T.FileTree.disk c.args.tree.now) (g.T.FileTree.disk c.write.new.tree)) c.slice.ensures (c.write.ensures.crash tells))
 
 pub returns-in-Zero-clause-crash : goal.returns-in-Zero-clause-crash
 returns-in-Zero-clause-crash g c = λ tells n is.
@@ -60,12 +61,12 @@ returns-in-Remove-clause-crash g c = λ tells n is.
 pub returns-in-SetAttrs-clause-crash : goal.returns-in-SetAttrs-clause-crash
 returns-in-SetAttrs-clause-crash g c = λ tells n is.
     on_its_name c.args.op.now _ (name_at c.in-SetAttrs.c c.in-SetAttrs.o) n c.in-SetAttrs.is refl is (λ m F. ObjectCrash c.args.set.now m F (g.T.FileTree.disk c.args.tree.now) (g.T.FileTree.disk c.set_attrs.new.tree))
-    (c.set_attrs.ensures.crash tells)
+    (subst (λ (b : List Pair). ObjectCrash c.args.set.now (name_at c.in-SetAttrs.c c.in-SetAttrs.o) (attrs_file (oid_text c.in-SetAttrs.o) b) (g.T.FileTree.disk c.args.tree.now) (g.T.FileTree.disk c.set_attrs.new.tree)) c.slice-in-SetAttrs.ensures (c.set_attrs.ensures.crash tells))
 
 pub returns-in-RmAttr-clause-crash : goal.returns-in-RmAttr-clause-crash
 returns-in-RmAttr-clause-crash g c = λ tells n is.
     on_its_name c.args.op.now _ (name_at c.in-RmAttr.c c.in-RmAttr.o) n c.in-RmAttr.is refl is (λ m F. ObjectCrash c.args.set.now m F (g.T.FileTree.disk c.args.tree.now) (g.T.FileTree.disk c.rm_attr.new.tree))
-    (c.rm_attr.ensures.crash tells)
+    (subst (λ (b : List ℕ). ObjectCrash c.args.set.now (name_at c.in-RmAttr.c c.in-RmAttr.o) (attr_gone_file (oid_text c.in-RmAttr.o) b) (g.T.FileTree.disk c.args.tree.now) (g.T.FileTree.disk c.rm_attr.new.tree)) c.slice-in-RmAttr.ensures (c.rm_attr.ensures.crash tells))
 
 pub returns-in-RmAttrs-clause-crash : goal.returns-in-RmAttrs-clause-crash
 returns-in-RmAttrs-clause-crash g c = λ tells n is.
