@@ -1,6 +1,6 @@
 mod Goes
 mod Steps
-mod Standing
+pub mod Standing
 mod Pairs
 mod Passes
 mod Changes
