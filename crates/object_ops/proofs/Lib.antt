@@ -1,5 +1,5 @@
 mod Goes
-mod Standing
+pub mod Standing
 mod Pairs
 mod Passes
 mod Changes

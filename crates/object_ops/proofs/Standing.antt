@@ -1,5 +1,5 @@
 -- What stands between operations stands again after a step.
-use Rattle.std.proofs.Common.{◌≡◌, ◌≢◌, ◌⊎◌, inl, inr, ⊎_elim, ℕ, ◌<◌, ◌≤◌, ◌++◌, ◌∷◌, [], List, length, codes, false, sym, ◌∙◌, ap, subst, arith, Option, Some, None}
+use Rattle.std.proofs.Common.{◌≡◌, ◌≢◌, ◌⊎◌, inl, inr, ⊎_elim, ℕ, ◌<◌, ◌≤◌, ◌++◌, ◌∷◌, [], List, length, codes, false, sym, ◌∙◌, ap, refl, subst, arith, Option, Some, None}
 use Rattle.std.proofs.lemmas.Bool.{cases_eq, cases_lt}
 use Rattle.std.proofs.lemmas.List.{same_from_push}
 use Rattle.fs_names.specs.declared.coll.Coll.{Coll}
@@ -7,7 +7,7 @@ use Rattle.fs_names.specs.declared.settings.Settings.{Settings}
 use Rattle.fs_names.specs.declared.settings.Pos.{Pos}
 use Rattle.fs_names.specs.Reading.{CollFits}
 use Rattle.fs_names.specs.Text.{oid_text, coll_text}
-use Rattle.tree_api.specs.Tree.{Path, Version, Tree, Names, IsDir, IsFree, current}
+use Rattle.tree_api.specs.Tree.{Path, Version, Tree, Names, held, look, IsDir, IsFree, current}
 use Rattle.tree_api.specs.Disk.{Disk, Sound, Stays, From, Everywhere, Leaves}
 use Rattle.tree_api.specs.Renaming.{Removes}
 use Rattle.tree_api.proofs.Moments.{now_from}
@@ -21,10 +21,24 @@ use Rattle.replay_guard.specs.Guards.{guard_name}
 use Rattle.tree_stands.specs.Names.{Name, NameFits}
 use Rattle.tree_stands.specs.Trees.{dir_of, dir_guard, AllWhole, GuardsLevel, ForObject}
 use Rattle.tree_stands.proofs.Only.{off_aside, only_object}
-use Rattle.op_effects.specs.Ready.{HasColls, Ready}
+use Rattle.op_effects.specs.Ready.{HasColls, OffStays, Ready}
 
 pub shorter : (c d : List ℕ) (step : List ℕ) → current ++ c ∷ [] ≢ entry (current ++ d ∷ []) step
 shorter c d step same = let e : 2 ≡ 3 = ap length same in absurd (omega (arith, e))
+
+-- what stands at the path of a collection stands there still
+pub dir_stays : (c d : Coll) (e f : Tree) → OffStays (dir_of c) e f → IsDir e (dir_of d) → IsDir f (dir_of d)
+dir_stays c d e f stays is = by (f.at (dir_of d)) refl
+  where
+    same : look f (dir_of d) ≡ Some (e.node is.0)
+    same = stays (dir_of d) ((λ s. shorter (coll_text d) (coll_text c) s), (λ s. shorter (coll_text d) (codes "aside") s)) ∙ ap (λ (x : Option ℕ). held x e.node) is.1
+
+    by : (x : Option ℕ) → f.at (dir_of d) ≡ x → IsDir f (dir_of d)
+    by None here = let z : None ≡ Some (e.node is.0) = sym (ap (λ (x : Option ℕ). held x f.node) here) ∙ same in cc
+    by (Some n) here =
+        let z : Some (f.node n) ≡ Some (e.node is.0) = sym (ap (λ (x : Option ℕ). held x f.node) here) ∙ same in
+        let v : f.node n ≡ e.node is.0 = cc in
+        (n, here, ap (λ (w : Version). w.dir) v ∙ is.2)
 
 -- calls that change nothing
 module _ (d0 d1 : Disk) (stays : Stays d0 d1) where

@@ -143,6 +143,7 @@ pub fn set_attrs<T: FileTree>(
     ensures crash { T.tells tree.new → ObjectCrash set.now (name_at coll.now oid.now) (attrs_file (oid_text oid.now) pairs.now) (T.disk tree.old) (T.disk tree.new) }
     ensures off { T.tells tree.new → Leaves (OffStays (dir_of coll.now)) (T.disk tree.old) (T.disk tree.new) }
     ensures done { T.tells tree.new → OnOk result (ForObject set.now (name_at coll.now oid.now) (λ x y. y ≡ attrs_file (oid_text oid.now) pairs.now x) (T.disk tree.old).tree (T.disk tree.new).tree) }
+    ensures there { T.tells tree.new → IsDir (T.disk tree.new).tree (dir_of coll.now) }
     ensures ready { T.tells tree.new → OnOk result (Ready set.now (T.disk tree.new)) }
     ensures undamaged { T.tells tree.new → (p : Path) → result ≢ Err (IndexFault.Damaged p) }
 {
@@ -168,6 +169,7 @@ pub fn rm_attr<T: FileTree>(
     ensures crash { T.tells tree.new → ObjectCrash set.now (name_at coll.now oid.now) (attr_gone_file (oid_text oid.now) name.now) (T.disk tree.old) (T.disk tree.new) }
     ensures off { T.tells tree.new → Leaves (OffStays (dir_of coll.now)) (T.disk tree.old) (T.disk tree.new) }
     ensures done { T.tells tree.new → OnOk result (ForObject set.now (name_at coll.now oid.now) (λ x y. y ≡ attr_gone_file (oid_text oid.now) name.now x) (T.disk tree.old).tree (T.disk tree.new).tree) }
+    ensures there { T.tells tree.new → IsDir (T.disk tree.new).tree (dir_of coll.now) }
     ensures ready { T.tells tree.new → OnOk result (Ready set.now (T.disk tree.new)) }
     ensures undamaged { T.tells tree.new → (p : Path) → result ≢ Err (IndexFault.Damaged p) }
 {
@@ -192,6 +194,7 @@ pub fn rm_attrs<T: FileTree>(
     ensures crash { T.tells tree.new → ObjectCrash set.now (name_at coll.now oid.now) (attrs_gone_file (oid_text oid.now)) (T.disk tree.old) (T.disk tree.new) }
     ensures off { T.tells tree.new → Leaves (OffStays (dir_of coll.now)) (T.disk tree.old) (T.disk tree.new) }
     ensures done { T.tells tree.new → OnOk result (ForObject set.now (name_at coll.now oid.now) (λ x y. y ≡ attrs_gone_file (oid_text oid.now) x) (T.disk tree.old).tree (T.disk tree.new).tree) }
+    ensures there { T.tells tree.new → IsDir (T.disk tree.new).tree (dir_of coll.now) }
     ensures ready { T.tells tree.new → OnOk result (Ready set.now (T.disk tree.new)) }
     ensures undamaged { T.tells tree.new → (p : Path) → result ≢ Err (IndexFault.Damaged p) }
 {

@@ -35,6 +35,7 @@ pub fn write<T: FileTree>(
     ensures crash { T.tells tree.new → ObjectCrash set.now (name_at coll.now oid.now) (written_file (oid_text oid.now) at bytes.now) (T.disk tree.old) (T.disk tree.new) }
     ensures off { T.tells tree.new → Leaves (OffStays (dir_of coll.now)) (T.disk tree.old) (T.disk tree.new) }
     ensures done { T.tells tree.new → OnOk result (ForObject set.now (name_at coll.now oid.now) (λ x y. y ≡ written_file (oid_text oid.now) at bytes.now x) (T.disk tree.old).tree (T.disk tree.new).tree) }
+    ensures there { T.tells tree.new → IsDir (T.disk tree.new).tree (dir_of coll.now) }
     ensures ready { T.tells tree.new → OnOk result (Ready set.now (T.disk tree.new)) }
     ensures undamaged { T.tells tree.new → (p : Path) → result ≢ Err (IndexFault.Damaged p) }
 {
@@ -62,6 +63,7 @@ pub fn zero<T: FileTree>(
     ensures crash { T.tells tree.new → ObjectCrash set.now (name_at coll.now oid.now) (written_file (oid_text oid.now) at (zeros len)) (T.disk tree.old) (T.disk tree.new) }
     ensures off { T.tells tree.new → Leaves (OffStays (dir_of coll.now)) (T.disk tree.old) (T.disk tree.new) }
     ensures done { T.tells tree.new → OnOk result (ForObject set.now (name_at coll.now oid.now) (λ x y. y ≡ written_file (oid_text oid.now) at (zeros len) x) (T.disk tree.old).tree (T.disk tree.new).tree) }
+    ensures there { T.tells tree.new → IsDir (T.disk tree.new).tree (dir_of coll.now) }
     ensures ready { T.tells tree.new → OnOk result (Ready set.now (T.disk tree.new)) }
     ensures undamaged { T.tells tree.new → (p : Path) → result ≢ Err (IndexFault.Damaged p) }
 {
@@ -88,6 +90,7 @@ pub fn truncate<T: FileTree>(
     ensures crash { T.tells tree.new → ObjectCrash set.now (name_at coll.now oid.now) (cut_file (oid_text oid.now) len) (T.disk tree.old) (T.disk tree.new) }
     ensures off { T.tells tree.new → Leaves (OffStays (dir_of coll.now)) (T.disk tree.old) (T.disk tree.new) }
     ensures done { T.tells tree.new → OnOk result (ForObject set.now (name_at coll.now oid.now) (λ x y. y ≡ cut_file (oid_text oid.now) len x) (T.disk tree.old).tree (T.disk tree.new).tree) }
+    ensures there { T.tells tree.new → IsDir (T.disk tree.new).tree (dir_of coll.now) }
     ensures ready { T.tells tree.new → OnOk result (Ready set.now (T.disk tree.new)) }
     ensures undamaged { T.tells tree.new → (p : Path) → result ≢ Err (IndexFault.Damaged p) }
 {

@@ -72,6 +72,7 @@ pub fn touch<T: FileTree>(
     ensures crash { T.tells tree.new → ObjectCrash set.now (name_at coll.now oid.now) (touched_file (oid_text oid.now)) (T.disk tree.old) (T.disk tree.new) }
     ensures off { T.tells tree.new → Leaves (OffStays (dir_of coll.now)) (T.disk tree.old) (T.disk tree.new) }
     ensures done { T.tells tree.new → OnOk result (ForObject set.now (name_at coll.now oid.now) (λ x y. y ≡ touched_file (oid_text oid.now) x) (T.disk tree.old).tree (T.disk tree.new).tree) }
+    ensures there { T.tells tree.new → IsDir (T.disk tree.new).tree (dir_of coll.now) }
     ensures ready { T.tells tree.new → OnOk result (Ready set.now (T.disk tree.new)) }
     ensures undamaged { T.tells tree.new → (p : Path) → result ≢ Err (IndexFault.Damaged p) }
 {

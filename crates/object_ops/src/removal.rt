@@ -31,6 +31,7 @@ pub fn remove<T: FileTree>(
     ensures crash { T.tells tree.new → ObjectCrash set.now (name_at coll.now oid.now) no_file (T.disk tree.old) (T.disk tree.new) }
     ensures off { T.tells tree.new → Leaves (OffStays (dir_of coll.now)) (T.disk tree.old) (T.disk tree.new) }
     ensures done { T.tells tree.new → OnOk result (ForObject set.now (name_at coll.now oid.now) (λ x y. y ≡ no_file x) (T.disk tree.old).tree (T.disk tree.new).tree) }
+    ensures there { T.tells tree.new → IsDir (T.disk tree.new).tree (dir_of coll.now) }
     ensures ready { T.tells tree.new → OnOk result (Ready set.now (T.disk tree.new)) }
     ensures undamaged { T.tells tree.new → (p : Path) → result ≢ Err (IndexFault.Damaged p) }
 {

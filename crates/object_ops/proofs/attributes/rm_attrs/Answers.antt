@@ -5,6 +5,7 @@ use Rattle.object_ops.proofs.Changes.{ours_inside}
 use Rattle.tree_stands.specs.Trees.{name_at, ForObject}
 use Rattle.op_effects.specs.Ready.{Ready}
 use Rattle.object_ops.proofs.Passes.{changed, part_crash, part_off, op_crash, op_off, op_done, op_ready}
+use Rattle.object_ops.proofs.Standing.{dir_stays}
 use Rattle.object_ops.proofs.Undamaged.{when_done}
 use Rattle.object_ops.proofs.attributes.rm_attrs.Goals as goal
 
@@ -22,6 +23,15 @@ returns-in_err-path-clause-off g c = λ t.
     let s0 = g.met.T.FileTree.sound c.args.tree.now (search rules) in
     part_off c.args.set.now n c.name_fits.ensures without_ours ours_inside (disk c.args.tree.now) (disk c.open.new.tree) (c.open.ensures.goes (search rules)) (c.requires.ready (search rules)) s0
 
+pub returns-in_err-path-clause-there : goal.returns-in_err-path-clause-there
+returns-in_err-path-clause-there g c = λ t.
+    let disk = g.T.FileTree.disk in
+    let n = name_at c.args.coll.now c.args.oid.now in
+    let s0 = g.met.T.FileTree.sound c.args.tree.now (search rules) in
+    dir_stays c.args.coll.now c.args.coll.now (disk c.args.tree.now).tree (disk c.open.new.tree).tree
+    (part_off c.args.set.now n c.name_fits.ensures without_ours ours_inside (disk c.args.tree.now) (disk c.open.new.tree) (c.open.ensures.goes (search rules)) (c.requires.ready (search rules)) s0).now
+    (c.requires.there (search rules))
+
 pub returns-clause-crash : goal.returns-clause-crash
 returns-clause-crash g c = λ t.
     let disk = g.T.FileTree.disk in
@@ -37,6 +47,16 @@ returns-clause-off g c = λ t.
     let s0 = g.met.T.FileTree.sound c.args.tree.now (search rules) in
     op_off c.args.set.now n c.name_fits.ensures without_ours ours_inside (disk c.open.new.tree) (disk c.drop_all.new.tree) (g.met.T.FileTree.sound c.open.new.tree (search rules)) (g.met.T.FileTree.sound c.drop_all.new.tree (search rules)) (c.in_ok-path.ensures.ready (search rules)) c.in_ok-path.path (c.in_ok-path.ensures.stands (search rules)) (IsOk c.drop_all.result)
     (c.drop_all.ensures.goes (search rules)) (disk c.args.tree.now) s0 (c.requires.ready (search rules)) (c.open.ensures.goes (search rules)) (c.in_ok-path.ensures.reads (search rules))
+
+pub returns-clause-there : goal.returns-clause-there
+returns-clause-there g c = λ t.
+    let disk = g.T.FileTree.disk in
+    let n = name_at c.args.coll.now c.args.oid.now in
+    let s0 = g.met.T.FileTree.sound c.args.tree.now (search rules) in
+    dir_stays c.args.coll.now c.args.coll.now (disk c.args.tree.now).tree (disk c.drop_all.new.tree).tree
+    (op_off c.args.set.now n c.name_fits.ensures without_ours ours_inside (disk c.open.new.tree) (disk c.drop_all.new.tree) (g.met.T.FileTree.sound c.open.new.tree (search rules)) (g.met.T.FileTree.sound c.drop_all.new.tree (search rules)) (c.in_ok-path.ensures.ready (search rules)) c.in_ok-path.path (c.in_ok-path.ensures.stands (search rules)) (IsOk c.drop_all.result)
+    (c.drop_all.ensures.goes (search rules)) (disk c.args.tree.now) s0 (c.requires.ready (search rules)) (c.open.ensures.goes (search rules)) (c.in_ok-path.ensures.reads (search rules))).now
+    (c.requires.there (search rules))
 
 pub returns-clause-done : goal.returns-clause-done
 returns-clause-done g c = λ t.
