@@ -1,12 +1,12 @@
 -- Names that go with all below them, one run of calls after another.
-use Rattle.std.proofs.Common.{◌≡◌, ◌≢◌, ◌⊎◌, inl, inr, ⊎_elim, ℕ, suc, ◌+◌, ◌<◌, ◌≤◌, Bool, true, false, List, [], ◌∷◌, ◌++◌, length, get_or, refl, sym, ◌∙◌, ap, subst, arith, Option, Some, None, append_assoc}
+use Rattle.std.proofs.Common.{◌≡◌, ◌≢◌, inl, inr, ⊎_elim, ℕ, suc, ◌+◌, ◌<◌, ◌≤◌, Bool, true, false, List, [], ◌∷◌, ◌++◌, length, get_or, refl, sym, ◌∙◌, ap, subst, arith, Option, Some, None, append_assoc}
 use Rattle.std.specs.Prelude.{Result, slice_get}
 use Rattle.std.proofs.lemmas.Bool.{cases_eq}
 use Rattle.std.proofs.lemmas.List.{length-append, append-nil, append_cancel_left, get_or_default}
 use Rattle.tree_api.specs.Answer.{Before, IsListing, kind_of}
 use Rattle.tree_api.specs.Tree.{Path, Version, Names, Tree, IsFile, IsDir, IsEmptyDir, HasParent, Gone, MovedDir}
-use Rattle.tree_api.specs.Disk.{Disk, Sound, Stays, NameChange, Leaves}
-use Rattle.tree_api.specs.Renaming.{SameNamed, Renamed, NoNode}
+use Rattle.tree_api.specs.Disk.{Disk, Sound, Stays, NameChange}
+use Rattle.tree_api.specs.Renaming.{Renamed, NoNode}
 use Rattle.tree_api.specs.declared.tree.Entry.{Entry}
 use Rattle.tree_api.specs.declared.tree.Kind.TheVariants.{File, Dir}
 use Rattle.tree_api.specs.declared.tree.TreeError.{TreeError}

@@ -1,12 +1,12 @@
 -- A collection that is thrown away.
-use Rattle.std.proofs.Common.{◌≡◌, ◌≢◌, ◌⊎◌, inl, inr, ⊎_elim, ℕ, List, [], ◌∷◌, refl, sym, ◌∙◌, ap, subst, Option, Some, None, Result, Ok, Err, OnOk}
+use Rattle.std.proofs.Common.{◌≡◌, ◌≢◌, ◌⊎◌, inl, inr, ⊎_elim, ℕ, List, [], ◌∷◌, refl, sym, ◌∙◌, ap, subst, Some, None, Result, Ok, Err, OnOk}
 use Rattle.fs_names.specs.declared.coll.Coll.{Coll}
 use Rattle.fs_names.specs.declared.settings.Pos.{Pos}
 use Rattle.fs_names.specs.declared.settings.Settings.{Settings}
 use Rattle.fs_names.specs.Reading.{CollFits}
-use Rattle.tree_api.specs.Tree.{Path, Version, Names, Tree}
+use Rattle.tree_api.specs.Tree.{Path, Names, Tree}
 use Rattle.tree_api.specs.Disk.{Disk, Sound, From, Everywhere, Leaves}
-use Rattle.tree_api.specs.Renaming.{SameNamed, Renamed, NoNode}
+use Rattle.tree_api.specs.Renaming.{SameNamed, NoNode}
 use Rattle.tree_api.proofs.Moments.{now_from}
 use Rattle.tree_api.proofs.Renaming.{moves_by}
 use Rattle.lfn_index.specs.Directory.{lfn_name, entry}

@@ -1,4 +1,4 @@
-use Rattle.std.proofs.Common.{rules, ◌≡◌, ◌++◌, ◌∙◌, ap, sym, subst, length, OnOk, None, arith}
+use Rattle.std.proofs.Common.{◌≡◌, ◌++◌, ◌∙◌, ap, sym, subst, length, OnOk, None, arith}
 use Rattle.tree_api.specs.Tree.{Path, Tree}
 use Rattle.coll_ops.specs.Changes.{Sweeps}
 use Rattle.coll_ops.proofs.Paths.{within_below}
@@ -13,7 +13,7 @@ sweep_dir-sweep_entry-requires g t c κs within =
       (
         within,
         λ told. entry_now (disk c.args.tree.now) (disk c.loop-entry.tree) c.args.path.now c.deref-entry-items.result.now (loop.listing told) c.loop-entry.entry-index c.loop-entry-test.true c.entry-item.result c.entry-item.is
-        (loop.sweeps told) (loop.cleared told),
+            (loop.sweeps told) (loop.cleared told),
       ),
     )
 

@@ -1,4 +1,4 @@
-use Rattle.std.proofs.Common.{ℕ, ◌+◌, ◌*◌}
+use Rattle.std.proofs.Common.{◌+◌, ◌*◌}
 use Rattle.tree_api.specs.Answer.{IsListing}
 use Rattle.coll_ops.specs.Changes.{Sweeps, Faults}
 use Rattle.coll_ops.proofs.Clearing.{Cleared}
