@@ -1,13 +1,13 @@
 -- A directory that is there or comes, in words of calls.
-use Rattle.std.proofs.Common.{◌≡◌, ◌≢◌, inl, inr, ℕ, refl, sym, ◌∙◌, ap, subst, Option, Some, None, Result, Ok, Err, OnOk}
+use Rattle.std.proofs.Common.{◌≡◌, inl, inr, ℕ, refl, sym, ◌∙◌, ap, None, Result, Ok, Err, OnOk}
 use Rattle.tree_api.specs.Tree.{Path, Version, Names, Tree, IsDir, new_dir}
-use Rattle.tree_api.specs.Disk.{Disk, Sound, Still, Stays, SyncedNames, Everywhere, Creation, Leaves}
-use Rattle.tree_api.specs.Renaming.{SameNamed, Renamed}
+use Rattle.tree_api.specs.Disk.{Disk, Sound, Still, Stays, Everywhere, Creation}
+use Rattle.tree_api.specs.Renaming.{Renamed}
 use Rattle.tree_api.specs.declared.tree.TreeError.{TreeError}
 use Rattle.tree_api.proofs.Moments.{Joins, leaves_none, leaves_step, leaves_stays}
 use Rattle.tree_api.proofs.Renaming.{IsKept, renamed_same, renamed_joins, creates, run_after}
 use Rattle.lfn_index.specs.Moving.{Same}
-use Rattle.coll_ops.specs.Changes.{DirAt, NewDir, AddsDir, NamesStable}
+use Rattle.coll_ops.specs.Changes.{DirAt, AddsDir, NamesStable}
 
 same_joins : Joins Same
 same_joins a b c one two = two ∙ one

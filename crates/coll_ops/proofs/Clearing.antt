@@ -1,23 +1,24 @@
 -- Names that go with all below them, one run of calls after another.
-use Rattle.std.proofs.Common.{◌≡◌, ◌≢◌, ◌⊎◌, inl, inr, ⊎_elim, ℕ, suc, ◌+◌, ◌<◌, ◌≤◌, List, [], ◌∷◌, ◌++◌, length, get_or, refl, sym, ◌∙◌, ap, subst, arith, Option, Some, None, append_assoc}
-use Rattle.std.specs.Prelude.{Result}
+use Rattle.std.proofs.Common.{◌≡◌, ◌≢◌, inl, inr, ⊎_elim, ℕ, suc, ◌+◌, ◌<◌, ◌≤◌, Bool, true, false, List, [], ◌∷◌, ◌++◌, length, get_or, refl, sym, ◌∙◌, ap, subst, arith, Option, Some, None, append_assoc}
+use Rattle.std.specs.Prelude.{Result, slice_get}
 use Rattle.std.proofs.lemmas.Bool.{cases_eq}
 use Rattle.std.proofs.lemmas.List.{length-append, append-nil, append_cancel_left, get_or_default}
 use Rattle.tree_api.specs.Answer.{Before, IsListing, kind_of}
-use Rattle.tree_api.specs.Tree.{Path, Version, Names, Tree, IsDir, IsEmptyDir, HasParent, Gone, MovedDir}
-use Rattle.tree_api.specs.Disk.{Disk, Sound, Stays, NameChange, Leaves}
-use Rattle.tree_api.specs.Renaming.{SameNamed, Renamed, NoNode}
+use Rattle.tree_api.specs.Tree.{Path, Version, Names, Tree, IsFile, IsDir, IsEmptyDir, HasParent, Gone, MovedDir}
+use Rattle.tree_api.specs.Disk.{Disk, Sound, Stays, NameChange}
+use Rattle.tree_api.specs.Renaming.{Renamed, NoNode}
 use Rattle.tree_api.specs.declared.tree.Entry.{Entry}
+use Rattle.tree_api.specs.declared.tree.Kind.TheVariants.{File, Dir}
 use Rattle.tree_api.specs.declared.tree.TreeError.{TreeError}
 use Rattle.tree_api.proofs.Moments.{Joins, leaves_none, leaves_step, leaves_more, leaves_run, leaves_wider}
 use Rattle.tree_api.proofs.Nodes.{dec_path}
 use Rattle.tree_api.proofs.Renaming.{IsKept, renamed_same, renamed_joins, renamed_wider, renames}
 use Rattle.lfn_index.specs.Directory.{entry}
 use Rattle.lfn_index.specs.Entries.{IsEntry}
-use Rattle.lfn_index.proofs.Listings.{listed_entries}
+use Rattle.lfn_index.proofs.Listings.{listed_entries, single_step}
 use Rattle.lfn_index.proofs.Seen.{At, rising_at, never_before}
 use Rattle.coll_ops.specs.Places.{Within}
-use Rattle.coll_ops.specs.Changes.{Swept, Sweeps, Thrown, Throws}
+use Rattle.coll_ops.specs.Changes.{Swept, Sweeps, Thrown, Throws, Faults}
 use Rattle.coll_ops.proofs.Paths.{within_below, within_itself}
 
 module _ (p : Path) (t : Tree) where
@@ -140,6 +141,40 @@ module _ (d0 d : Disk) (dir : Path) (es : List Entry) (listing : IsListing d0.tr
     pub sweeps_more : Sound d → Sweeps dir d0 d2
     sweeps_more s1 = sweeps_then dir (dir ++ e.step) d0 d d2 s1 (λ q w. within_below dir e.step q w) sweeps more
 
+-- the path of an entry
+module _ (t : Tree) (dir p : Path) (e : Entry) (is : IsEntry t dir e) (path : p ≡ dir ++ e.step) where
+  pub entry_file : e.kind ≡ File → IsFile t p
+  entry_file file = (is.0, ap t.at path ∙ is.2, by (t.node is.0).dir (sym is.3 ∙ file))
+    where
+      by : (b : Bool) → kind_of b ≡ File → b ≡ false
+      by true same = cc
+      by false same = refl
+
+  pub entry_dir : e.kind ≡ Dir → IsDir t p
+  entry_dir is_dir = (is.0, ap t.at path ∙ is.2, by (t.node is.0).dir (sym is.3 ∙ is_dir))
+    where
+      by : (b : Bool) → kind_of b ≡ Dir → b ≡ true
+      by true same = refl
+      by false same = cc
+
+pub entry_path : (dir p s : Path) (x : List ℕ) → length s ≡ 1 → slice_get s 0 ≡ Some x → p ≡ dir ++ x ∷ [] → p ≡ dir ++ s
+entry_path dir p s x one first path = path ∙ ap (λ (y : Path). dir ++ y) (sym (single_step s x one first))
+
+pub never_root : (dir p : Path) (x : List ℕ) → p ≡ dir ++ x ∷ [] → p ≢ []
+never_root dir p x path root =
+    let e : length dir + 1 ≡ 0 = sym (length-append dir (x ∷ [])) ∙ ap length (sym path ∙ root) in
+    absurd (omega (arith, e))
+
+-- what is counted
+pub faults_then : (R S : Type 0) (d0 d1 d2 : Disk) → Faults R d0 d1 → Faults S d1 d2 → Faults ⊥ d0 d2
+faults_then R S d0 d1 d2 one two = record {
+  faults = omega (arith, one.faults, two.faults);
+  cause = λ no. absurd no;
+  looks = omega (arith, one.looks, two.looks);
+  syncs = two.syncs ∙ one.syncs;
+  checkpoints = two.checkpoints ∙ one.checkpoints;
+}
+
 -- once all are gone
 pub cleared_all : (d0 d : Disk) (dir : Path) (es : List Entry) (i : ℕ) → IsListing d0.tree dir es → IsDir d0.tree dir → Sweeps dir d0 d → Cleared d0.tree d.tree dir es i → length es ≤ i → IsEmptyDir d.tree dir
 cleared_all d0 d dir es i listing is sweeps so_far all = (
@@ -159,6 +194,9 @@ cleared_all d0 d dir es i listing is sweeps so_far all = (
         let e : Entry = record { step = s ∷ []; kind = kind_of (d0.tree.node n).dir } in
         let held = (listing.entries e).1 (n, refl, was s n here, refl) in
         so_far.gone held.0 s (omega (arith, held.1, all)) (held.1, λ x. ap (λ (y : Entry). y.step) (get_or_default es held.0 x e held.1 ∙ held.2))
+
+pub dir_there : (t : Tree) (p : Path) → IsDir t p → t.at p ≢ None
+dir_there t p is none = let z : None ≡ Some is.0 = sym none ∙ is.1 in cc
 
 -- a directory that is renamed, once the place is clear
 module _ (from to : Path) (apart : (q : Path) → Within from q → Within to q → ⊥) where

@@ -1,21 +1,21 @@
 -- A collection that is made.
-use Rattle.std.proofs.Common.{◌≡◌, ◌≢◌, ◌⊎◌, inl, inr, ⊎_elim, ℕ, List, [], ◌∷◌, refl, sym, ◌∙◌, ap, subst, Option, Some, None}
+use Rattle.std.proofs.Common.{◌≡◌, ◌≢◌, ◌⊎◌, inl, inr, ⊎_elim, ℕ, List, [], refl, sym, ◌∙◌, ap, subst, Option, Some, None}
 use Rattle.std.specs.Option.{option_map}
 use Rattle.fs_names.specs.declared.coll.Coll.{Coll}
 use Rattle.fs_names.specs.declared.settings.Settings.{Settings}
 use Rattle.fs_names.specs.Reading.{CollFits}
-use Rattle.tree_api.specs.Tree.{Path, Version, Names, Tree, IsDir, held, new_dir}
-use Rattle.tree_api.specs.Disk.{Disk, Sound, From, Stays, Everywhere, Leaves, Moves}
-use Rattle.tree_api.specs.Renaming.{SameNamed, Renamed}
-use Rattle.tree_api.proofs.Moments.{now_from, leaves_wider, leaves_none}
+use Rattle.tree_api.specs.Tree.{Path, Names, Tree, IsDir, held}
+use Rattle.tree_api.specs.Disk.{Disk, Sound, From, Everywhere, Leaves}
+use Rattle.tree_api.specs.Renaming.{SameNamed}
+use Rattle.tree_api.proofs.Moments.{now_from, leaves_wider}
 use Rattle.tree_api.proofs.Renaming.{moves_by}
 use Rattle.lfn_index.specs.Directory.{lfn_name, entry}
 use Rattle.lfn_index.specs.Changes.{aside}
-use Rattle.lfn_index.specs.Maps.{Level, AttrLevel}
+use Rattle.lfn_index.specs.Maps.{AttrLevel}
 use Rattle.lfn_index.specs.Moving.{Same}
 use Rattle.lfn_index.proofs.Levels.{level_synced}
 use Rattle.replay_guard.specs.Guards.{guard_name}
-use Rattle.tree_stands.specs.Trees.{dir_of, guard_of, dir_guard, AllWhole, GuardsLevel}
+use Rattle.tree_stands.specs.Trees.{dir_of, guard_of, dir_guard}
 use Rattle.op_effects.specs.Collections.{Comes, Makes}
 use Rattle.op_effects.specs.Ready.{Ready, HasColls}
 use Rattle.coll_ops.specs.Places.{Within}

@@ -1,12 +1,12 @@
 -- A collection that is thrown away.
-use Rattle.std.proofs.Common.{◌≡◌, ◌≢◌, ◌⊎◌, inl, inr, ⊎_elim, ℕ, List, [], ◌∷◌, refl, sym, ◌∙◌, ap, subst, Option, Some, None}
+use Rattle.std.proofs.Common.{◌≡◌, ◌≢◌, ◌⊎◌, inl, inr, ⊎_elim, ℕ, List, [], ◌∷◌, refl, sym, ◌∙◌, ap, subst, Some, None, Result, Ok, Err, OnOk}
 use Rattle.fs_names.specs.declared.coll.Coll.{Coll}
 use Rattle.fs_names.specs.declared.settings.Pos.{Pos}
 use Rattle.fs_names.specs.declared.settings.Settings.{Settings}
 use Rattle.fs_names.specs.Reading.{CollFits}
-use Rattle.tree_api.specs.Tree.{Path, Version, Names, Tree}
+use Rattle.tree_api.specs.Tree.{Path, Names, Tree}
 use Rattle.tree_api.specs.Disk.{Disk, Sound, From, Everywhere, Leaves}
-use Rattle.tree_api.specs.Renaming.{SameNamed, Renamed, NoNode}
+use Rattle.tree_api.specs.Renaming.{SameNamed, NoNode}
 use Rattle.tree_api.proofs.Moments.{now_from}
 use Rattle.tree_api.proofs.Renaming.{moves_by}
 use Rattle.lfn_index.specs.Directory.{lfn_name, entry}
@@ -20,6 +20,14 @@ use Rattle.coll_ops.specs.Places.{trash_at, Within}
 use Rattle.coll_ops.specs.Changes.{Elsewhere, Thrown, Throws}
 use Rattle.coll_ops.proofs.Kept.{KeepsAt, named_keeps, keeps_look, keeps_dir, keeps_free, keeps_guard, no_guard, coll_stays, empty_dir, drops_whole, below_missing, leaves_by, attrs_kept}
 use Rattle.coll_ops.proofs.Paths.{coll_dec, other_dir, other_entry, off_aside, off_place, never_trash, never_trash_entry, aside_trash, place_trash}
+
+pub on_ok : {T E A B : Type 0} (r : Result T E) → (A → B) → OnOk r A → OnOk r B
+on_ok (Ok v) f a = f a
+on_ok (Err e) f a = tt
+
+-- along what equals the two paths
+pub throws_along : (p q : Path) (coll : Coll) (pos : Pos) (old new : Disk) → p ≡ dir_of coll → q ≡ trash_at pos → Throws p q old new → Throws (dir_of coll) (trash_at pos) old new
+throws_along p q coll pos old new from to throws = subst (λ (x : Path). Throws (dir_of coll) x old new) to (subst (λ (x : Path). Throws x q old new) from throws)
 
 -- each collection stays
 pub stays_drops : (set : Settings) (coll : Coll) (a c : Tree) → ((q : Path) → KeepsAt a c q) → Drops set coll a c

@@ -1,5 +1,5 @@
 -- Collections that stay, and what stays with each name.
-use Rattle.std.proofs.Common.{◌≡◌, ◌≢◌, ◌⊎◌, inl, inr, ⊎_elim, ℕ, true, false, List, [], ◌∷◌, refl, sym, ◌∙◌, ap, subst, Option, Some, None}
+use Rattle.std.proofs.Common.{◌≡◌, ◌≢◌, ⊎_elim, ℕ, true, false, List, refl, sym, ◌∙◌, ap, subst, Option, Some, None}
 use Rattle.std.specs.Option.{option_map}
 use Rattle.fs_names.specs.declared.coll.Coll.{Coll}
 use Rattle.fs_names.specs.declared.oid.Oid.{Oid}
@@ -16,7 +16,7 @@ use Rattle.tree_api.proofs.Nodes.{free_along}
 use Rattle.tree_api.proofs.Renaming.{moves_by}
 use Rattle.lfn_index.specs.Directory.{entry}
 use Rattle.lfn_index.specs.Maps.{Map, IsMap, Whole, AttrLevel}
-use Rattle.lfn_index.proofs.Mapped.{SameView, nodes_view, view_map, content_same}
+use Rattle.lfn_index.proofs.Mapped.{nodes_view, view_map, content_same}
 use Rattle.tree_stands.specs.Trees.{dir_of, guard_of, dir_guard, AllWhole}
 use Rattle.op_effects.specs.Collections.{CollStays, IsEmpty, Makes, Drops}
 use Rattle.coll_ops.specs.Places.{IsThere}

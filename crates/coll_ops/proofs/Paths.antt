@@ -20,7 +20,7 @@ use Rattle.fs_names.proofs.CollLaw.{coll_texts_are_read}
 use Rattle.fs_names.proofs.Colls.{head_text, temp_text}
 use Rattle.fs_names.proofs.Digits.{digits-lower}
 use Rattle.tree_api.specs.Step.{IsStep, IsStepByte}
-use Rattle.tree_api.specs.Tree.{Path, current, IsAbove}
+use Rattle.tree_api.specs.Tree.{Path, IsAbove}
 use Rattle.lfn_index.specs.Directory.{entry}
 use Rattle.lfn_index.specs.Changes.{aside, place_name}
 use Rattle.lfn_index.proofs.Places.{is_step_from}
@@ -28,7 +28,7 @@ use Rattle.fs_cells.proofs.Looks.{is_coll}
 use Rattle.tree_stands.specs.Trees.{dir_of}
 use Rattle.tree_stands.proofs.Names.{coll_itself, true_not_false}
 use Rattle.tree_stands.proofs.OneFile.{one_coll}
-use Rattle.coll_ops.specs.Places.{trash, trash_at, Within}
+use Rattle.coll_ops.specs.Places.{trash_at, Within}
 
 -- a collection's text is a step of a path
 lower_byte : (base b : ℕ) → base ≤ 16 → is_lower_digit base b ≡ true → IsStepByte b

@@ -18,11 +18,7 @@ use std::alloc::Global;
 use tree_api::{FileTree, Kind, TreePath};
 
 /// Renames a directory with all below it, in place of what may stand there. Answers whether nothing stood there.
-fn throw_dir<T: FileTree>(
-    tree: &mut T,
-    from: &TreePath,
-    to: &TreePath,
-) -> Result<bool, IndexFault>
+fn throw_dir<T: FileTree>(tree: &mut T, from: &TreePath, to: &TreePath) -> Result<bool, IndexFault>
     requires dir { T.tells tree.old → IsDir (T.disk tree.old).tree from.now }
     requires parent { T.tells tree.old → HasParent (T.disk tree.old).tree to.now }
     requires apart { (q : Path) → Within from.now q → Within to.now q → ⊥ }
@@ -38,11 +34,7 @@ fn throw_dir<T: FileTree>(
 }
 
 /// The same, where the directory is there.
-fn throw_away<T: FileTree>(
-    tree: &mut T,
-    from: &TreePath,
-    to: &TreePath,
-) -> Result<bool, IndexFault>
+fn throw_away<T: FileTree>(tree: &mut T, from: &TreePath, to: &TreePath) -> Result<bool, IndexFault>
     requires parent { T.tells tree.old → HasParent (T.disk tree.old).tree to.now }
     requires apart { (q : Path) → Within from.now q → Within to.now q → ⊥ }
     ensures told { T.tells tree.new → T.tells tree.old }

@@ -56,11 +56,7 @@ fn settle_dir<T: FileTree>(tree: &mut T, path: &TreePath) -> Result<(), IndexFau
 /// The names are synced also where the directory is there, since a crash may have been about to leave it out.
 ///
 /// Answers `Damaged` where a file stands there.
-pub fn make_coll<T: FileTree>(
-    alloc: Global,
-    tree: &mut T,
-    coll: &Coll,
-) -> Result<(), IndexFault>
+pub fn make_coll<T: FileTree>(alloc: Global, tree: &mut T, coll: &Coll) -> Result<(), IndexFault>
     requires current { T.tells tree.old → IsDir (T.disk tree.old).tree current }
     ensures told { T.tells tree.new → T.tells tree.old }
     ensures counts { Counts (IsErrOf result IndexFault.Tree) 1 0 (T.disk tree.old) (T.disk tree.new) }
