@@ -99,9 +99,9 @@ module _ (image : Images Tree) (reads : Reads) (number : Tree → ℕ → Type 0
         record {
           keeps = keeps_on before txns spells here;
           reached = ⊎_elim
-            (λ (lt : n < stored.seq). late reads h n stored.seq next (disk y).tree lt is (due lt (λ f hi. reads Replay f stored.seq (disk y).tree) (done lt) before txns spells here))
-            (λ (le : stored.seq ≤ n).
-                let r : reads Replay h n (disk y).tree = subst (λ (s : Side). reads Replay h n (disk s).tree) (sym (skipped le)) (g.reached.not_yet (omega (arith, le, seq_is))) in
-                early reads h n next (disk y).tree (omega (arith, le, is)) r)
-            (cases_lt n stored.seq);
+              (λ (lt : n < stored.seq). late reads h n stored.seq next (disk y).tree lt is (due lt (λ f hi. reads Replay f stored.seq (disk y).tree) (done lt) before txns spells here))
+              (λ (le : stored.seq ≤ n).
+              let r : reads Replay h n (disk y).tree = subst (λ (s : Side). reads Replay h n (disk s).tree) (sym (skipped le)) (g.reached.not_yet (omega (arith, le, seq_is))) in
+              early reads h n next (disk y).tree (omega (arith, le, is)) r)
+              (cases_lt n stored.seq);
         }

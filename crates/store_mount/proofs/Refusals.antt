@@ -114,7 +114,7 @@ module _ (image : Images Tree) (reads : Reads) (number : Tree → ℕ → Type 0
   pub outside : (f : MountFault) → Explains number fsid t bytes f → IsOutside f
   outside NoHeader h = some_none s.head (sym s.header ∙ h)
   outside (WrongFsid tree found) h =
-      h.1.3 (ap (λ (x : Head). x.fsid) (some_head h.1.0 s.head (sym h.1.1 ∙ s.header)) ∙ s.fsid_is)
+      h.1.3 (sym h.1.2 ∙ ap (λ (x : Head). x.fsid) (some_head h.1.0 s.head (sym h.1.1 ∙ s.header)) ∙ s.fsid_is)
   outside Spent h = h.3 (unspent h.0 h.1)
   outside BadSeq h = h n (theory.number_is _ n n last t s.good)
   outside (JournalGap start committed) h =

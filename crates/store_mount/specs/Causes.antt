@@ -10,7 +10,7 @@ use Rattle.ring_journal.specs.declared.blob.Stored.{Stored}
 use Rattle.ring_journal.specs.State.{IsOtherRing, IsSpent, IsUnspent, told_first}
 use Rattle.store_history.specs.Journal.{Spells, above}
 use Rattle.store_mount.specs.declared.fault.MountFault.{MountFault}
-use Rattle.store_mount.specs.declared.fault.MountFault.TheVariants.{NoHeader, WrongFsid, Spent, BadSeq, JournalGap, Damaged, BadEntry, Tree, Device, Memory}
+use Rattle.store_mount.specs.declared.fault.MountFault.TheVariants.{NoHeader, WrongFsid, Spent, BadSeq, JournalGap, Damaged, BadEntry, Tree as OfTree, Device, Memory}
 
 -- it comes before any entry is done again
 abbrev pub IsFoundFirst : MountFault → Type 0
@@ -21,13 +21,13 @@ IsFoundFirst BadSeq = Unit {0}
 IsFoundFirst (JournalGap start committed) = Unit {0}
 IsFoundFirst (Damaged path) = ⊥
 IsFoundFirst (BadEntry seq) = ⊥
-IsFoundFirst Tree = ⊥
+IsFoundFirst OfTree = ⊥
 IsFoundFirst Device = ⊥
 IsFoundFirst Memory = ⊥
 
 -- it says nothing of what the store holds
 abbrev pub IsOutside : MountFault → Type 0
-IsOutside Tree = Unit {0}
+IsOutside OfTree = Unit {0}
 IsOutside Device = Unit {0}
 IsOutside Memory = Unit {0}
 IsOutside NoHeader = ⊥
@@ -71,7 +71,7 @@ RefusesRing bytes fsid (WrongFsid tree ring) = (tree ≡ fsid) × IsOtherRing by
 RefusesRing bytes fsid Spent = IsSpent bytes fsid
 RefusesRing bytes fsid Device = Unit {0}
 RefusesRing bytes fsid Memory = Unit {0}
-RefusesRing bytes fsid Tree = ⊥
+RefusesRing bytes fsid OfTree = ⊥
 RefusesRing bytes fsid BadSeq = ⊥
 RefusesRing bytes fsid (JournalGap start committed) = ⊥
 RefusesRing bytes fsid (Damaged path) = ⊥
@@ -80,7 +80,7 @@ RefusesRing bytes fsid (BadEntry seq) = ⊥
 -- why the tree has no committed number
 abbrev pub RefusesNumber : (Tree → ℕ → Type 0) → Tree → MountFault → Type 0
 RefusesNumber number t BadSeq = (n : ℕ) → number t n → ⊥
-RefusesNumber number t Tree = Unit {0}
+RefusesNumber number t OfTree = Unit {0}
 RefusesNumber number t Memory = Unit {0}
 RefusesNumber number t Device = ⊥
 RefusesNumber number t NoHeader = ⊥
@@ -94,7 +94,7 @@ RefusesNumber number t (BadEntry seq) = ⊥
 abbrev pub RefusesEntry : ℕ → Stored → MountFault → Type 0
 RefusesEntry n stored (BadEntry seq) = (seq ≡ stored.seq) × (n < stored.seq) × ((ops : List Op) → decoded stored.payload ≡ Ok ops → ⊥)
 RefusesEntry n stored (Damaged path) = Unit {0}
-RefusesEntry n stored Tree = Unit {0}
+RefusesEntry n stored OfTree = Unit {0}
 RefusesEntry n stored Memory = Unit {0}
 RefusesEntry n stored Device = ⊥
 RefusesEntry n stored NoHeader = ⊥
@@ -107,7 +107,7 @@ RefusesEntry n stored (JournalGap start committed) = ⊥
 abbrev pub RefusesReplay : ℕ → ℕ → List Entry → MountFault → Type 0
 RefusesReplay n first es (BadEntry seq) = IsBadEntry n first es seq
 RefusesReplay n first es (Damaged path) = Unit {0}
-RefusesReplay n first es Tree = Unit {0}
+RefusesReplay n first es OfTree = Unit {0}
 RefusesReplay n first es Memory = Unit {0}
 RefusesReplay n first es Device = Unit {0}
 RefusesReplay n first es NoHeader = ⊥
@@ -125,7 +125,7 @@ Explains number fsid t bytes BadSeq = (n : ℕ) → number t n → ⊥
 Explains number fsid t bytes (JournalGap start committed) = IsGap number t bytes start committed
 Explains number fsid t bytes (BadEntry seq) = HasBadEntry number t bytes seq
 Explains number fsid t bytes (Damaged path) = ⊥
-Explains number fsid t bytes Tree = Unit {0}
+Explains number fsid t bytes OfTree = Unit {0}
 Explains number fsid t bytes Device = Unit {0}
 Explains number fsid t bytes Memory = Unit {0}
 

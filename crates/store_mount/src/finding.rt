@@ -104,7 +104,10 @@ pub fn find<S: Side, D: Device>(
         Err(_) => return Err(MountFault::Tree),
     }
     let ring = load(dev, fsid)?;
-    let committed = committed_number(alloc, side)?;
+    let committed = match committed_number(alloc, side) {
+        Ok(committed) => committed,
+        Err(fault) => return Err(fault),
+    };
     let start = ring.start_seq();
     if start > committed + 1 {
         return Err(MountFault::JournalGap { start, committed });

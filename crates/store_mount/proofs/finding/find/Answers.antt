@@ -1,0 +1,8 @@
+use Rattle.std.proofs.Common.{rules}
+use Rattle.store_mount.proofs.Refusals.{number_explains}
+use Rattle.store_mount.proofs.finding.find.Goals as goal
+
+pub returns-in-Err-committed_number-clause-refused : goal.returns-in-Err-committed_number-clause-refused
+returns-in-Err-committed_number-clause-refused g c = λ tells told.
+    let S = g.S.Side in
+    number_explains S.number (S.disk c.args.side.now).tree (g.D.Device.state c.args.dev.now).disk.reads c.args.fsid.now c.in-Err-committed_number.fault ?
