@@ -1,5 +1,5 @@
 -- What the pairs at an exit of a mount stand for.
-use Rattle.std.proofs.Common.{◌≡◌, ◌⊎◌, inl, inr, ℕ, ◌+◌, ◌-◌, ◌≤◌, ◌<◌, List, take, length, refl, sym, ◌∙◌, ap, subst, arith, Some}
+use Rattle.std.proofs.Common.{◌≡◌, inl, inr, ℕ, ◌+◌, ◌-◌, List, length, sym, ◌∙◌, ap, subst, arith, Some}
 use Rattle.std.proofs.lemmas.List.{take_all}
 use Rattle.fs_model.specs.declared.op.Op.{Op}
 use Rattle.fs_model.specs.Objects.{Objects}
@@ -18,7 +18,7 @@ use Rattle.store_history.specs.Journal.{Spells, above, IsAbove, EachImage, RingS
 use Rattle.store_history.specs.Pair.{StandsAt}
 use Rattle.store_turns.specs.Theory.{Reads, Theory}
 use Rattle.store_turns.specs.declared.numbers.How.TheVariants.{Live}
-use Rattle.store_mount.specs.Mounts.{Carries, PairsCarry, MountedAs, WasOrStands, WasOrServes}
+use Rattle.store_mount.specs.Mounts.{PairsCarry, MountedAs, WasOrStands, WasOrServes}
 use Rattle.store_mount.specs.Replays.{WhereSpelled}
 use Rattle.store_mount.proofs.Ways.{number_is, last_is, spelled, good, own, stands, serves}
 

@@ -1,8 +1,6 @@
 -- Why a mount gives up, by the fault of the call that it hands on.
-use Rattle.std.proofs.Common.{◌≡◌, ℕ, ◌+◌, ◌-◌, ◌<◌, List, drop, sym, ◌∙◌, ap, subst, arith, refl, Some, None, Ok}
-use Rattle.fs_model.specs.declared.op.Op.{Op}
+use Rattle.std.proofs.Common.{◌≡◌, ℕ, ◌+◌, List, drop, sym, ◌∙◌, ap, arith, refl, Some, None}
 use Rattle.fs_model.specs.Objects.{Objects}
-use Rattle.txn_codec.specs.Reading.{decoded}
 use Rattle.tree_api.specs.Tree.{Tree}
 use Rattle.ring_frame.specs.Frame.{Entry}
 use Rattle.ring_frame.specs.Heads.{Head, head_of}
@@ -10,7 +8,6 @@ use Rattle.ring_images.specs.Held.{readable}
 use Rattle.ring_journal.specs.declared.blob.Stored.{Stored}
 use Rattle.ring_journal.specs.declared.fault.RingFault.{RingFault}
 use Rattle.ring_journal.specs.declared.fault.RingFault.TheVariants as ring
-use Rattle.ring_journal.specs.Fault.{IsLoadFault}
 use Rattle.ring_journal.specs.State.{IsOtherRing, IsSpent, IsUnspentImage, told_first}
 use Rattle.store_history.specs.Images.{Images}
 use Rattle.store_history.specs.Pair.{StandsAt}
@@ -20,7 +17,7 @@ use Rattle.store_mount.specs.declared.fault.MountFault.{MountFault}
 use Rattle.store_mount.specs.declared.fault.MountFault.TheVariants.{NoHeader, WrongFsid, Spent, BadSeq, JournalGap, Damaged, BadEntry, Tree as OfTree, Device, Memory}
 use Rattle.store_mount.specs.Fault.{of_ring}
 use Rattle.store_mount.specs.Causes.{IsFoundFirst, IsOutside, RefusesRing, RefusesNumber, RefusesEntry, RefusesReplay, IsBadEntry, Explains}
-use Rattle.store_mount.proofs.Ways.{number_is, no_gap, spelled}
+use Rattle.store_mount.proofs.Ways.{no_gap, spelled}
 
 pub ring_refuses : (bytes fsid : List ℕ) (f : RingFault) → (f ≡ ring.NoHeader → head_of bytes ≡ None) → ((found : List ℕ) → f ≡ ring.WrongRing found → IsOtherRing bytes fsid found)
     → (f ≡ ring.Spent → IsSpent bytes fsid) → RefusesRing bytes fsid (of_ring fsid f)

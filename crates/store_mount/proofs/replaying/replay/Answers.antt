@@ -1,4 +1,4 @@
-use Rattle.std.proofs.Common.{rules, arith, ◌≡◌, ◌∙◌, ℕ, ◌+◌, ◌-◌, List, drop, ap, sym, refl, subst, Ok}
+use Rattle.std.proofs.Common.{rules, arith, ◌≡◌, ◌∙◌, ℕ, ◌+◌, ◌-◌, drop, ap, sym, refl, subst}
 use Rattle.std.specs.Prelude.{length, Option, Some, None, IfSome, IfNone}
 use Rattle.dev_api.specs.Disk.{Disk}
 use Rattle.ring_frame.specs.Heads.{Head}
