@@ -1,5 +1,5 @@
 -- Why a mount gives up: what is so of the tree and of the device's bytes as they read.
-use Rattle.std.specs.Prelude.{◌≡◌, ℕ, ◌+◌, ◌≤◌, ◌<◌, List, drop, Some, None, Ok}
+use Rattle.std.specs.Prelude.{◌≡◌, ℕ, ◌+◌, ◌-◌, ◌≤◌, ◌<◌, List, take, drop, Some, None, Ok}
 use Rattle.fs_model.specs.declared.op.Op.{Op}
 use Rattle.txn_codec.specs.Reading.{decoded}
 use Rattle.tree_api.specs.Tree.{Tree}
@@ -38,16 +38,22 @@ IsOutside (JournalGap start committed) = ⊥
 IsOutside (Damaged path) = ⊥
 IsOutside (BadEntry seq) = ⊥
 
--- the ring begins further than one behind the committed number
-pub record IsGap (number : Tree → ℕ → Type 0) (t : Tree) (bytes : List ℕ) (start committed : ℕ) : Type 0 where
+-- the bytes have a ring that may be loaded for the fsid
+pub record Loads (bytes fsid : List ℕ) : Type 0 where
   pub head : Head
   pub header : head_of bytes ≡ Some head
-  pub start_is : start ≡ head.seq
+  pub fsid_is : head.fsid ≡ fsid
+  pub unspent : IsUnspent head
+
+-- such a ring begins further than one behind the committed number
+pub record IsGap (number : Tree → ℕ → Type 0) (fsid : List ℕ) (t : Tree) (bytes : List ℕ) (start committed : ℕ) : Type 0 where
+  pub loads : Loads bytes fsid
+  pub start_is : start ≡ loads.head.seq
   pub number_is : number t committed
   pub gap : committed + 1 < start
 
 -- Of these entries, the first of which has the number `first`, the one with the number seq is above n and spells no
--- transaction.
+-- transaction, and those before it that are above n do.
 pub record IsBadEntry (n first : ℕ) (es : List Entry) (seq : ℕ) : Type 0 where
   pub place : ℕ
   pub stored : Stored
@@ -55,14 +61,15 @@ pub record IsBadEntry (n first : ℕ) (es : List Entry) (seq : ℕ) : Type 0 whe
   pub number : seq ≡ first + place
   pub above : n < seq
   pub spells_none : (ops : List Op) → decoded stored.payload ≡ Ok ops → ⊥
+  pub before : (txns : List (List Op)) × Spells (drop (n + 1 - first) (take place es)) txns
 
--- of the ring's entries above the committed number it is one that spells none
-pub record HasBadEntry (number : Tree → ℕ → Type 0) (t : Tree) (bytes : List ℕ) (seq : ℕ) : Type 0 where
-  pub head : Head
-  pub header : head_of bytes ≡ Some head
+-- of such a ring's entries above the committed number this is the first that spells none
+pub record HasBadEntry (number : Tree → ℕ → Type 0) (fsid : List ℕ) (t : Tree) (bytes : List ℕ) (seq : ℕ) : Type 0 where
+  pub loads : Loads bytes fsid
   pub committed : ℕ
   pub number_is : number t committed
-  pub bad : IsBadEntry committed head.seq (readable bytes) seq
+  pub no_gap : loads.head.seq ≤ committed + 1
+  pub bad : IsBadEntry committed loads.head.seq (readable bytes) seq
 
 -- why the bytes have no ring that may be loaded for the fsid
 abbrev pub RefusesRing : List ℕ → List ℕ → MountFault → Type 0
@@ -116,26 +123,23 @@ RefusesReplay n first es Spent = ⊥
 RefusesReplay n first es BadSeq = ⊥
 RefusesReplay n first es (JournalGap start committed) = ⊥
 
--- why the two can't be mounted
+-- why the two can't be mounted: just one of these is so, or they can
 abbrev pub Explains : (Tree → ℕ → Type 0) → List ℕ → Tree → List ℕ → MountFault → Type 0
 Explains number fsid t bytes NoHeader = head_of bytes ≡ None
 Explains number fsid t bytes (WrongFsid tree ring) = (tree ≡ fsid) × IsOtherRing bytes fsid ring
 Explains number fsid t bytes Spent = IsSpent bytes fsid
-Explains number fsid t bytes BadSeq = (n : ℕ) → number t n → ⊥
-Explains number fsid t bytes (JournalGap start committed) = IsGap number t bytes start committed
-Explains number fsid t bytes (BadEntry seq) = HasBadEntry number t bytes seq
+Explains number fsid t bytes BadSeq = Loads bytes fsid × ((n : ℕ) → number t n → ⊥)
+Explains number fsid t bytes (JournalGap start committed) = IsGap number fsid t bytes start committed
+Explains number fsid t bytes (BadEntry seq) = HasBadEntry number fsid t bytes seq
 Explains number fsid t bytes (Damaged path) = ⊥
 Explains number fsid t bytes OfTree = Unit {0}
 Explains number fsid t bytes Device = Unit {0}
 Explains number fsid t bytes Memory = Unit {0}
 
--- they can: none of these is so
+-- they can, with this committed number
 pub record CanMount (number : Tree → ℕ → Type 0) (fsid : List ℕ) (t : Tree) (bytes : List ℕ) (committed : ℕ) : Type 0 where
-  pub head : Head
-  pub header : head_of bytes ≡ Some head
-  pub fsid_is : head.fsid ≡ fsid
-  pub unspent : IsUnspent head
+  pub loads : Loads bytes fsid
   pub number_is : number t committed
-  pub no_gap : head.seq ≤ committed + 1
+  pub no_gap : loads.head.seq ≤ committed + 1
   pub txns : List (List Op)
-  pub spelled : Spells (above committed head.seq (readable bytes)) txns
+  pub spelled : Spells (above committed loads.head.seq (readable bytes)) txns

@@ -48,3 +48,7 @@ WasOrStands image fsid may bytes o n last t = may t ⊎ StandsAt image fsid t by
 abbrev pub WasOrServes : Images Tree → List ℕ → Disk → Objects → ℕ → ℕ → List ℕ → Type 0
 WasOrServes image fsid d o n last c =
     (IsImage d c × IsSound d c) ⊎ ((t : Tree) → StandsAt image fsid t d.reads o n last → StandsAt image fsid t c o n last)
+
+-- each pair of a tree that might be left and a sound unspent image stands for o, with these numbers
+abbrev pub AllStand : Images Tree → List ℕ → Objects → ℕ → ℕ → (Tree → Type 0) → Disk → Type 0
+AllStand image fsid o n last may d = (t : Tree) → may t → EachImage (λ c. StandsAt image fsid t c o n last) d

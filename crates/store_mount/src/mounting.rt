@@ -7,21 +7,21 @@ ghost use Rattle.tree_api.specs.Tree.{Path};
 ghost use Rattle.tree_api.specs.Disk.{Keeps, Stays};
 ghost use Rattle.dev_api.specs.Run.{KeepsSince};
 ghost use Rattle.ring_images.specs.Held.{EachSound, ReadsSound, Within, synced};
-ghost use Rattle.ring_journal.specs.State.{Holds, IsUnspent, IsUnspentImage, Loaded};
+ghost use Rattle.ring_journal.specs.State.{Holds, IsSettled, IsUnspent, IsUnspentImage, Loaded};
 ghost use Rattle.store_history.specs.History.{end_of, replay_of};
 ghost use Rattle.store_history.specs.Journal.{EachImage, IsAbove, RingSide, Spells, above};
 ghost use Rattle.store_history.specs.Pair.{StandsAt};
 ghost use Rattle.store_turns.specs.State.{Fits};
 ghost use Rattle.store_turns.specs.declared.numbers.How.TheVariants.{Live};
 ghost use Rattle.store_mount.specs.Causes.{CanMount, Explains, IsFoundFirst, IsOutside, RefusesReplay};
-ghost use Rattle.store_mount.specs.Mounts.{MountedAs, PairsCarry, WasOrServes, WasOrStands};
+ghost use Rattle.store_mount.specs.Mounts.{AllStand, MountedAs, PairsCarry, WasOrServes, WasOrStands};
 ghost use Rattle.store_mount.specs.Replays.{WhereSpelled};
 
 use crate::fault::MountFault;
 use crate::finding::find;
 use crate::replaying::replay;
 use dev_api::Device;
-use ring_journal::Ring;
+use ring_journal::{Ring, sound_law};
 use std::alloc::Global;
 use store_journal::reopen;
 use store_turns::{Numbers, Side};
@@ -104,6 +104,9 @@ pub fn mount<S: Side, D: Device>(
         → Keeps (WasOrStands S.image fsid.now (S.disk side.old).may (D.state dev.old).disk.reads o n last) (S.disk side.old) (S.disk side.new) }
     ensures journals { S.tells side.new → D.tells dev.new → ReadsSound (D.state dev.old).disk → (o : Objects) (n last : ℕ) → StandsAt S.image fsid.now (S.disk side.old).tree (D.state dev.old).disk.reads o n last
         → KeepsSince (EachImage (WasOrServes S.image fsid.now (D.state dev.old).disk o n last)) (D.state dev.old) (D.state dev.new) }
+    ensures moments { S.tells side.new → D.tells dev.new → IsSettled (D.state dev.old).disk → IsUnspentImage (D.state dev.old).disk.reads → (o : Objects) (n last : ℕ)
+        → AllStand S.image fsid.now o n last (S.disk side.old).may (D.state dev.old).disk
+        → Keeps (λ t. KeepsSince (EachImage (λ c. StandsAt S.image fsid.now t c o n last)) (D.state dev.old) (D.state dev.new)) (S.disk side.old) (S.disk side.new) }
     ensures counts { IfOk result (λ mounted. Fits mounted.numbers mounted.ring) }
     ensures ready { S.tells side.new → OnOk result (S.ready (S.disk side.new)) }
     ensures holds { D.tells dev.new → IfOk result (λ mounted. Holds mounted.ring (D.state dev.new).disk) }
@@ -115,7 +118,7 @@ pub fn mount<S: Side, D: Device>(
     ensures tree_stays { S.tells side.new → IfErr result (λ fault. IsFoundFirst fault → Stays (S.disk side.old) (S.disk side.new)) }
     ensures device_reads { D.tells dev.new → IfErr result (λ fault. IsFoundFirst fault → (D.state dev.new).disk.reads ≡ (D.state dev.old).disk.reads) }
     ensures no_image { D.tells dev.new → ReadsSound (D.state dev.old).disk → IfErr result (λ fault. IsFoundFirst fault → Within (D.state dev.old).disk (D.state dev.new).disk) }
-    ensures undamaged { S.tells side.new → D.tells dev.new → (p : Path) → result ≢ Err (MountFault.Damaged p) }
+    ensures undamaged { S.tells side.new → (p : Path) → result ≢ Err (MountFault.Damaged p) }
     ensures told { S.tells side.new → S.tells side.old }
     ensures honest { D.tells dev.new → D.tells dev.old }
     ensures extent { (D.state dev.new).size ≡ (D.state dev.old).size }
@@ -124,6 +127,7 @@ pub fn mount<S: Side, D: Device>(
     ensures tree_faults { (S.disk side.old).faults ≤ (S.disk side.new).faults }
     ensures device_faults { (D.state dev.old).faults ≤ (D.state dev.new).faults }
 {
+    sound_law();
     let found = match find(alloc, side, dev, fsid) {
         Ok(found) => found,
         Err(fault) => return Err(fault),

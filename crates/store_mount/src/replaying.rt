@@ -90,6 +90,9 @@ pub fn replay<S: Side, D: Device>(
             Err(RingFault::Dev) => return Err(MountFault::Device),
             Err(_) => return Err(MountFault::Memory),
         };
-        redo_entry(alloc, side, &stored, committed)?;
+        match redo_entry(alloc, side, &stored, committed) {
+            Ok(()) => {}
+            Err(fault) => return Err(fault),
+        }
     }
 }

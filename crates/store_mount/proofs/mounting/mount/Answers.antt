@@ -1,11 +1,13 @@
 use Rattle.std.proofs.Common.{rules, arith, ap, subst, Err}
 use Rattle.dev_api.specs.Disk.{Disk}
 use Rattle.dev_api.proofs.Run.{keeps_weaker, keeps_then}
-use Rattle.store_history.specs.Journal.{EachImage}
+use Rattle.tree_api.specs.Tree.{Tree}
+use Rattle.store_history.specs.Journal.{EachImage, Spells, above}
+use Rattle.store_history.specs.Pair.{StandsAt}
 use Rattle.ring_images.specs.Held.{readable}
-use Rattle.store_mount.specs.Causes.{RefusesReplay}
+use Rattle.store_mount.specs.Causes.{RefusesReplay, Loads}
 use Rattle.store_mount.specs.Mounts.{WasOrServes}
-use Rattle.store_mount.proofs.Carried.{found_carries, found_trees, found_journals, run_trees, run_journals, run_carries, mounted, spells_loaded}
+use Rattle.store_mount.proofs.Carried.{found_carries, found_trees, found_journals, run_trees, run_journals, run_carries, mounted, spells_loaded, settled_sound, all_moments}
 use Rattle.store_mount.proofs.Refusals.{outside, replay_explains}
 use Rattle.store_mount.proofs.mounting.mount.Goals as goal
 
@@ -36,6 +38,17 @@ returns-in-Err-clause-only g c = λ tells told o n last s fresh.
 
 pub returns-in-Err-clause-no_image : goal.returns-in-Err-clause-no_image
 returns-in-Err-clause-no_image g c = λ told so first. (c.find.ensures.crash (search rules) so).has
+
+pub returns-in-Err-clause-moments : goal.returns-in-Err-clause-moments
+returns-in-Err-clause-moments g c = λ tells told settled fresh o n last all.
+    let S = g.S.Side in
+    let d = g.D.Device.state in
+    let entry = (d c.args.dev.now).disk in
+    let so = settled_sound entry settled (c.sound_law.ensures.stable entry) in
+    let stand : (t : Tree) → (S.disk c.args.side.now).may t → StandsAt S.image c.args.fsid.now t entry.reads o n last = λ t may. all t may entry.reads (g.met.D.Device.reads_image c.args.dev.now (search rules)) so fresh in
+    let s = stand (S.disk c.args.side.now).tree (g.met.S.Side.sound c.args.side.now (search rules)).now in
+    all_moments S.image c.args.fsid.now (S.disk c.args.side.now) (S.disk c.find.new.side) (d c.args.dev.now) (d c.find.new.dev) settled o n last stand
+    (returns-in-Err-clause-trees g c tells told o n last s) (returns-in-Err-clause-journals g c tells told so o n last s)
 
 -- ---- entries are done again
 
@@ -84,7 +97,8 @@ returns-in-Err-go_on-clause-refused g c = λ tells told.
     let S = g.S.Side in
     let found = c.in-Ok.found in
     let entry = (g.D.Device.state c.args.dev.now).disk in
-    replay_explains S.number (S.disk c.args.side.now).tree c.args.fsid.now entry.reads found.ring.head (c.in-Ok.ensures.head (search rules)) found.committed (c.in-Ok.ensures.number (search rules))
+    let loads : Loads entry.reads c.args.fsid.now = record { head = found.ring.head; header = c.in-Ok.ensures.head (search rules); fsid_is = c.in-Ok.ensures.fsid; unspent = c.in-Ok.ensures.unspent } in
+    replay_explains S.number (S.disk c.args.side.now).tree c.args.fsid.now entry.reads loads found.committed (c.in-Ok.ensures.number (search rules)) c.in-Ok.ensures.no_gap
     c.in-Err-go_on.fault (λ p e. c.in-Err-go_on.ensures.undamaged (search rules) p (ap Err e))
     (subst (λ (d : Disk). RefusesReplay found.committed found.ring.head.seq (readable d.stable) c.in-Err-go_on.fault) (c.in-Ok.ensures.same (search rules)) (c.in-Err-go_on.ensures.refused (search rules)))
 
@@ -93,10 +107,22 @@ returns-in-Err-go_on-clause-only g c = λ tells told o n last s fresh.
     let S = g.S.Side in
     let found = c.in-Ok.found in
     let entry = (g.D.Device.state c.args.dev.now).disk in
+    let loads : Loads entry.reads c.args.fsid.now = record { head = found.ring.head; header = c.in-Ok.ensures.head (search rules); fsid_is = c.in-Ok.ensures.fsid; unspent = c.in-Ok.ensures.unspent } in
     outside S.image S.reads S.number S.laid g.met.S.Side.theory c.args.fsid.now entry.reads (S.disk c.args.side.now).tree o n last s fresh c.in-Err-go_on.fault
-    (replay_explains S.number (S.disk c.args.side.now).tree c.args.fsid.now entry.reads found.ring.head (c.in-Ok.ensures.head (search rules)) found.committed (c.in-Ok.ensures.number (search rules))
+    (replay_explains S.number (S.disk c.args.side.now).tree c.args.fsid.now entry.reads loads found.committed (c.in-Ok.ensures.number (search rules)) c.in-Ok.ensures.no_gap
     c.in-Err-go_on.fault (λ p e. c.in-Err-go_on.ensures.undamaged (search rules) p (ap Err e))
     (subst (λ (d : Disk). RefusesReplay found.committed found.ring.head.seq (readable d.stable) c.in-Err-go_on.fault) (c.in-Ok.ensures.same (search rules)) (c.in-Err-go_on.ensures.refused (search rules))))
+
+pub returns-in-Err-go_on-clause-moments : goal.returns-in-Err-go_on-clause-moments
+returns-in-Err-go_on-clause-moments g c = λ tells told settled fresh o n last all.
+    let S = g.S.Side in
+    let d = g.D.Device.state in
+    let entry = (d c.args.dev.now).disk in
+    let so = settled_sound entry settled (c.sound_law.ensures.stable entry) in
+    let stand : (t : Tree) → (S.disk c.args.side.now).may t → StandsAt S.image c.args.fsid.now t entry.reads o n last = λ t may. all t may entry.reads (g.met.D.Device.reads_image c.args.dev.now (search rules)) so fresh in
+    let s = stand (S.disk c.args.side.now).tree (g.met.S.Side.sound c.args.side.now (search rules)).now in
+    all_moments S.image c.args.fsid.now (S.disk c.args.side.now) (S.disk c.go_on.new.side) (d c.args.dev.now) (d c.go_on.new.dev) settled o n last stand
+    (returns-in-Err-go_on-clause-trees g c tells told o n last s) (returns-in-Err-go_on-clause-journals g c tells told so o n last s)
 
 -- ---- it is mounted
 
@@ -159,3 +185,28 @@ returns-clause-done g c = λ tells told o n last s.
     (g.met.S.Side.sound c.go_on.new.side (search rules)) (d c.find.new.dev).disk (c.in-Ok.ensures.same (search rules)) (c.go_on.ensures.keeps (search rules) (search rules)) o n last s
     c.last_seq-journalled.result c.go_on.new.ring (d c.go_on.new.dev).disk (omega (arith, c.last_seq-journalled.ensures, end)) (c.in-Ok-go_on.ensures.done (search rules) (search rules))
     (c.in-Ok-go_on.ensures.ring (search rules) s.before s.txns spells)
+
+pub returns-clause-can : goal.returns-clause-can
+returns-clause-can g c = λ tells told.
+    let found = c.in-Ok.found in
+    let entry = (g.D.Device.state c.args.dev.now).disk in
+    let loads : Loads entry.reads c.args.fsid.now = record { head = found.ring.head; header = c.in-Ok.ensures.head (search rules); fsid_is = c.in-Ok.ensures.fsid; unspent = c.in-Ok.ensures.unspent } in
+    let spelled = c.in-Ok-go_on.ensures.spelled (search rules) in
+    record {
+      loads = loads;
+      number_is = c.in-Ok.ensures.number (search rules);
+      no_gap = c.in-Ok.ensures.no_gap;
+      txns = spelled.0;
+      spelled = subst (λ (d : Disk). Spells (above found.committed found.ring.head.seq (readable d.stable)) spelled.0) (c.in-Ok.ensures.same (search rules)) spelled.1;
+    }
+
+pub returns-clause-moments : goal.returns-clause-moments
+returns-clause-moments g c = λ tells told settled fresh o n last all.
+    let S = g.S.Side in
+    let d = g.D.Device.state in
+    let entry = (d c.args.dev.now).disk in
+    let so = settled_sound entry settled (c.sound_law.ensures.stable entry) in
+    let stand : (t : Tree) → (S.disk c.args.side.now).may t → StandsAt S.image c.args.fsid.now t entry.reads o n last = λ t may. all t may entry.reads (g.met.D.Device.reads_image c.args.dev.now (search rules)) so fresh in
+    let s = stand (S.disk c.args.side.now).tree (g.met.S.Side.sound c.args.side.now (search rules)).now in
+    all_moments S.image c.args.fsid.now (S.disk c.args.side.now) (S.disk c.go_on.new.side) (d c.args.dev.now) (d c.go_on.new.dev) settled o n last stand
+    (returns-clause-trees g c tells told o n last s) (returns-clause-journals g c tells told so o n last s)

@@ -7,6 +7,7 @@ use Rattle.ring_journal.specs.declared.blob.Stored.{Stored}
 use Rattle.ring_journal.specs.State.{State, told_first}
 use Rattle.store_mount.proofs.Going.{begun, finished, keeps_on, goes_on}
 use Rattle.store_mount.proofs.Told.{Spelled, spelled_none, spelled_more, spelled_all, ended_length}
+use Rattle.store_mount.proofs.Refusals.{entry_refuses}
 use Rattle.store_mount.proofs.replaying.replay.Goals as goal
 
 pub loop-stored-init : goal.loop-stored-init
@@ -86,8 +87,8 @@ returns-in-Err g c =
       device_faults = omega (arith, inv.device_faults, next.faults);
     }
 
-pub returns-in_err-redo_entry-clause-keeps : goal.returns-in_err-redo_entry-clause-keeps
-returns-in_err-redo_entry-clause-keeps g c = λ tells told.
+pub returns-in-Err-redo_entry-clause-keeps : goal.returns-in-Err-redo_entry-clause-keeps
+returns-in-Err-redo_entry-clause-keeps g c = λ tells told.
     let S = g.S.Side in
     let inv = c.loop-stored.invariant in
     let stored = c.in-Ok-Some.stored in
@@ -98,6 +99,18 @@ returns-in_err-redo_entry-clause-keeps g c = λ tells told.
     sym (sym c.in-Ok-Some.field-0-is ∙ c.in-Ok-Some.ensures.told told ∙ ap (λ (d : Disk). told_first (drop c.loop-stored.ring.count (readable d.stable))) (inv.disk (search rules))) in
     keeps_on S.image S.reads S.number S.laid g.met.S.Side.theory c.args.committed c.args.ring.now.head.seq c.requires.no_gap es S.disk c.loop-stored.side c.redo_entry.new.side (S.disk c.args.side.now)
     (g.met.S.Side.sound c.loop-stored.side (search rules)) c.loop-stored.ring.count stored one (omega (arith, number.0, seq)) (inv.gone (search rules) (search rules)) c.redo_entry.ensures.skipped (c.redo_entry.ensures.keeps tells)
+
+pub returns-in-Err-redo_entry-clause-refused : goal.returns-in-Err-redo_entry-clause-refused
+returns-in-Err-redo_entry-clause-refused g c = λ told.
+    let inv = c.loop-stored.invariant in
+    let stored = c.in-Ok-Some.stored in
+    let es = readable (g.D.Device.state c.args.dev.now).disk.stable in
+    let number = if_some _ _ _ c.in-Ok-Some.field-0-is c.in-Ok-Some.ensures.number in
+    let seq : c.loop-stored.ring.head.seq ≡ c.args.ring.now.head.seq = ap (λ (h : Head). h.seq) inv.head in
+    let one : told_first (drop c.loop-stored.ring.count es) ≡ Some stored =
+    sym (sym c.in-Ok-Some.field-0-is ∙ c.in-Ok-Some.ensures.told told ∙ ap (λ (d : Disk). told_first (drop c.loop-stored.ring.count (readable d.stable))) (inv.disk (search rules))) in
+    entry_refuses c.args.committed c.args.ring.now.head.seq c.loop-stored.ring.count es stored one (omega (arith, number.0, seq)) (inv.spelled (search rules))
+    c.in-Err-redo_entry.fault c.in-Err-redo_entry.ensures.refused
 
 pub loop-stored-smaller : goal.loop-stored-smaller
 loop-stored-smaller g c =
@@ -126,16 +139,16 @@ loop-stored-preserved g c =
       honest = search rules;
       tree_faults = omega (arith, inv.tree_faults, c.redo_entry.ensures.faults);
       device_faults = omega (arith, inv.device_faults, next.faults);
-      ready = c.in_ok-redo_entry.ensures.ready;
+      ready = c.in-Ok.ensures.ready;
       spelled = λ told.
           let one : told_first (drop c.loop-stored.ring.count es) ≡ Some stored =
           sym (sym c.in-Ok-Some.field-0-is ∙ c.in-Ok-Some.ensures.told told ∙ ap (λ (d : Disk). told_first (drop c.loop-stored.ring.count (readable d.stable))) (inv.disk (search rules))) in
           subst (λ (i : ℕ). Spelled (c.args.committed + 1 - first) es i) (sym number.1)
-          (spelled_more (c.args.committed + 1 - first) es c.loop-stored.ring.count stored one (λ le. c.in_ok-redo_entry.ensures.spelled (omega (arith, le, number.0, seq, c.requires.no_gap))) (inv.spelled (search rules)));
+          (spelled_more (c.args.committed + 1 - first) es c.loop-stored.ring.count stored one (λ le. c.in-Ok.ensures.spelled (omega (arith, le, number.0, seq, c.requires.no_gap))) (inv.spelled (search rules)));
       gone = λ tells told.
           let one : told_first (drop c.loop-stored.ring.count es) ≡ Some stored =
           sym (sym c.in-Ok-Some.field-0-is ∙ c.in-Ok-Some.ensures.told told ∙ ap (λ (d : Disk). told_first (drop c.loop-stored.ring.count (readable d.stable))) (inv.disk (search rules))) in
           goes_on S.image S.reads S.number S.laid g.met.S.Side.theory c.args.committed first c.requires.no_gap es S.disk c.loop-stored.side c.redo_entry.new.side (S.disk c.args.side.now)
           (g.met.S.Side.sound c.loop-stored.side (search rules)) c.loop-stored.ring.count stored one (omega (arith, number.0, seq)) (inv.gone (search rules) (search rules)) c.redo_entry.ensures.skipped (c.redo_entry.ensures.keeps tells)
-          (first + c.next.new.self.count) (omega (arith, number.0, number.1, seq)) (c.in_ok-redo_entry.ensures.done tells);
+          (first + c.next.new.self.count) (omega (arith, number.0, number.1, seq)) (c.in-Ok.ensures.done tells);
     }
