@@ -24,10 +24,7 @@ use Rattle.store_turns.specs.Theory.{Reads, Theory}
 use Rattle.store_turns.specs.declared.numbers.How.TheVariants.{Live}
 use Rattle.store_mount.specs.Mounts.{PairsCarry, MountedAs, WasOrStands, WasOrServes}
 use Rattle.store_mount.specs.Replays.{WhereSpelled}
-use Rattle.store_mount.proofs.Ways.{number_is, last_is, spelled, good, own, stands, serves}
-
-some_head : (a b : Head) → Some a ≡ Some b → a ≡ b
-some_head a b e = cc
+use Rattle.store_mount.proofs.Ways.{some_head, number_is, last_is, spelled, good, own, stands, serves}
 
 -- ---- nothing new may be left
 

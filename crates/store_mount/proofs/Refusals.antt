@@ -15,7 +15,7 @@ use Rattle.store_mount.specs.declared.fault.MountFault.{MountFault}
 use Rattle.store_mount.specs.declared.fault.MountFault.TheVariants.{NoHeader, WrongFsid, Spent, BadSeq, JournalGap, Damaged, BadEntry, Tree as OfTree, Device, Memory}
 use Rattle.store_mount.specs.Causes.{IsOutside, RefusesNumber, RefusesEntry, RefusesReplay, IsBadEntry, Loads, Explains}
 use Rattle.store_mount.proofs.Told.{Spelled}
-use Rattle.store_mount.proofs.Ways.{no_gap, spelled}
+use Rattle.store_mount.proofs.Ways.{some_head, no_gap, spelled}
 
 pub number_explains : (number : Tree → ℕ → Type 0) (t : Tree) (bytes fsid : List ℕ) → Loads bytes fsid → (f : MountFault) → RefusesNumber number t f → Explains number fsid t bytes f
 number_explains number t bytes fsid loads NoHeader h = absurd h
@@ -62,9 +62,6 @@ module _ (image : Images Tree) (reads : Reads) (number : Tree → ℕ → Type 0
     (fsid bytes : List ℕ) (t : Tree) (o : Objects) (n last : ℕ) (s : StandsAt image fsid t bytes o n last) (unspent : IsUnspentImage bytes) where
   some_none : (a : Head) → Some a ≡ None → ⊥
   some_none a e = cc
-
-  some_head : (a b : Head) → Some a ≡ Some b → a ≡ b
-  some_head a b e = cc
 
   stored_spells : (head : Head) → head_of bytes ≡ Some head → (m : ℕ) → number t m → (seq : ℕ) → IsBadEntry m head.seq (readable bytes) seq → ⊥
   stored_spells head header m is seq bad =
