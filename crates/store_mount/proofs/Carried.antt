@@ -1,5 +1,5 @@
 -- What the pairs at an exit of a mount stand for.
-use Rattle.std.proofs.Common.{◌≡◌, ◌⊎◌, inl, inr, ℕ, ◌+◌, ◌-◌, ◌≤◌, ◌<◌, List, take, length, refl, sym, ◌∙◌, ap, subst, arith, Some}
+use Rattle.std.proofs.Common.{◌≡◌, ⊎_elim, inl, inr, ℕ, ◌+◌, ◌-◌, List, length, sym, ◌∙◌, ap, subst, arith, Some}
 use Rattle.std.proofs.lemmas.List.{take_all}
 use Rattle.fs_model.specs.declared.op.Op.{Op}
 use Rattle.fs_model.specs.Objects.{Objects}
@@ -10,20 +10,21 @@ use Rattle.tree_api.proofs.Moments.{started, goes_on, joined, weaker, now_from}
 use Rattle.dev_api.specs.Disk.{Disk, IsImage, settled}
 use Rattle.ring_frame.specs.Frame.{Entry}
 use Rattle.ring_frame.specs.Heads.{Head, head_of}
-use Rattle.ring_images.specs.Held.{readable, EachSound, ReadsSound, Within}
-use Rattle.ring_journal.specs.State.{State, IsUnspent}
+use Rattle.dev_api.specs.DeviceState.{DeviceState}
+use Rattle.dev_api.specs.Run.{KeepsSince}
+use Rattle.dev_api.proofs.Images.{settled_image}
+use Rattle.dev_api.proofs.Run.{keeps_weaker}
+use Rattle.ring_images.specs.Held.{readable, IsSound, EachSound, ReadsSound, Within}
+use Rattle.ring_journal.specs.State.{State, IsUnspent, IsSettled}
 use Rattle.store_history.specs.History.{end_of, replay_of}
 use Rattle.store_history.specs.Images.{Images}
 use Rattle.store_history.specs.Journal.{Spells, above, IsAbove, EachImage, RingSide}
 use Rattle.store_history.specs.Pair.{StandsAt}
 use Rattle.store_turns.specs.Theory.{Reads, Theory}
 use Rattle.store_turns.specs.declared.numbers.How.TheVariants.{Live}
-use Rattle.store_mount.specs.Mounts.{Carries, PairsCarry, MountedAs, WasOrStands, WasOrServes}
+use Rattle.store_mount.specs.Mounts.{PairsCarry, MountedAs, WasOrStands, WasOrServes}
 use Rattle.store_mount.specs.Replays.{WhereSpelled}
-use Rattle.store_mount.proofs.Ways.{number_is, last_is, spelled, good, own, stands, serves}
-
-some_head : (a b : Head) → Some a ≡ Some b → a ≡ b
-some_head a b e = cc
+use Rattle.store_mount.proofs.Ways.{some_head, number_is, last_is, spelled, good, own, stands, serves}
 
 -- ---- nothing new may be left
 
@@ -118,3 +119,27 @@ module _ (image : Images Tree) (reads : Reads) (number : Tree → ℕ → Type 0
     unspent = λ h k. subst IsUnspent (some_head head h (sym header ∙ k)) unspent;
     same = λ o n last s. stand o n last s t c (at_new o n last s t now) (of_fsid s.txns c (each s.txns (spells_loaded o n last s) c c_image c_sound));
   }
+
+-- ---- at every moment
+
+pub settled_sound : (d : Disk) → IsSettled d → IsSound d d.stable → ReadsSound d
+settled_sound d settled sound = subst (IsSound d) (sym (ap (λ (x : Disk). x.reads) settled)) sound
+
+-- where the device was settled and all stood for o, each tree since stands for o with each image of the device since
+pub all_moments : (image : Images Tree) (fsid : List ℕ) (old new : Files) (before now : DeviceState) → IsSettled before.disk → (o : Objects) (n last : ℕ)
+    → ((t : Tree) → old.may t → StandsAt image fsid t before.disk.reads o n last)
+    → Keeps (WasOrStands image fsid old.may before.disk.reads o n last) old new → KeepsSince (EachImage (WasOrServes image fsid before.disk o n last)) before now
+    → Keeps (λ t. KeepsSince (EachImage (λ c. StandsAt image fsid t c o n last)) before now) old new
+all_moments image fsid old new before now settled o n last all trees journals =
+    let d : Disk = before.disk in
+    let one : (c : List ℕ) → IsImage d c → d.reads ≡ c =
+    λ c is_image. ap (λ (x : Disk). x.reads) settled ∙ sym (settled_image d.stable c (subst (λ (x : Disk). IsImage x c) settled is_image)) in
+    weaker (WasOrStands image fsid old.may d.reads o n last) (λ t. KeepsSince (EachImage (λ c. StandsAt image fsid t c o n last)) before now) old new trees
+    (λ t was.
+    let here : StandsAt image fsid t d.reads o n last = ⊎_elim (λ (may : old.may t). all t may) (λ (s : StandsAt image fsid t d.reads o n last). s) was in
+    keeps_weaker (EachImage (WasOrServes image fsid d o n last)) (EachImage (λ c. StandsAt image fsid t c o n last))
+    (λ e each c is_image sound fresh. ⊎_elim
+    (λ (b : IsImage d c × IsSound d c). subst (λ (x : List ℕ). StandsAt image fsid t x o n last) (one c b.0) here)
+    (λ (f : (u : Tree) → StandsAt image fsid u d.reads o n last → StandsAt image fsid u c o n last). f t here)
+    (each c is_image sound fresh))
+    now.disk before.past now.past journals)

@@ -1,17 +1,15 @@
 -- How far a replay is.
-use Rattle.std.proofs.Common.{◌≡◌, ◌⊎◌, ⊎_elim, ℕ, ◌+◌, ◌-◌, ◌≤◌, ◌<◌, List, drop, length, sym, subst, arith, Some, length-drop}
+use Rattle.std.proofs.Common.{◌≡◌, ⊎_elim, ℕ, ◌+◌, ◌-◌, ◌≤◌, ◌<◌, List, drop, length, sym, subst, arith, Some, length-drop}
 use Rattle.std.proofs.lemmas.Bool.{cases_lt}
-use Rattle.fs_model.specs.declared.op.Op.{Op}
-use Rattle.fs_model.specs.Objects.{Objects}
 use Rattle.tree_api.specs.Tree.{Tree}
-use Rattle.tree_api.specs.Disk.{Disk as Files, Sound, Keeps, Everywhere}
+use Rattle.tree_api.specs.Disk.{Disk as Files, Sound, Keeps}
 use Rattle.tree_api.proofs.Moments.{started, joined, now_from}
 use Rattle.ring_frame.specs.Frame.{Entry}
 use Rattle.ring_journal.specs.declared.blob.Stored.{Stored}
 use Rattle.ring_journal.specs.State.{told_first}
 use Rattle.store_history.specs.History.{History, end_of, replay_of, IsTxn}
 use Rattle.store_history.specs.Images.{Images}
-use Rattle.store_history.specs.Journal.{Spells, above}
+use Rattle.store_history.specs.Journal.{above}
 use Rattle.store_history.proofs.Entries.{spells_length}
 use Rattle.store_turns.specs.Calls.{WhereReplayed}
 use Rattle.store_turns.specs.Theory.{Reads, Theory}
@@ -99,9 +97,9 @@ module _ (image : Images Tree) (reads : Reads) (number : Tree → ℕ → Type 0
         record {
           keeps = keeps_on before txns spells here;
           reached = ⊎_elim
-            (λ (lt : n < stored.seq). late reads h n stored.seq next (disk y).tree lt is (due lt (λ f hi. reads Replay f stored.seq (disk y).tree) (done lt) before txns spells here))
-            (λ (le : stored.seq ≤ n).
-                let r : reads Replay h n (disk y).tree = subst (λ (s : Side). reads Replay h n (disk s).tree) (sym (skipped le)) (g.reached.not_yet (omega (arith, le, seq_is))) in
-                early reads h n next (disk y).tree (omega (arith, le, is)) r)
-            (cases_lt n stored.seq);
+              (λ (lt : n < stored.seq). late reads h n stored.seq next (disk y).tree lt is (due lt (λ f hi. reads Replay f stored.seq (disk y).tree) (done lt) before txns spells here))
+              (λ (le : stored.seq ≤ n).
+              let r : reads Replay h n (disk y).tree = subst (λ (s : Side). reads Replay h n (disk s).tree) (sym (skipped le)) (g.reached.not_yet (omega (arith, le, seq_is))) in
+              early reads h n next (disk y).tree (omega (arith, le, is)) r)
+              (cases_lt n stored.seq);
         }

@@ -1,5 +1,5 @@
 -- The entries that were told spell transactions.
-use Rattle.std.proofs.Common.{◌≡◌, ◌⊎◌, ⊎_elim, ℕ, ◌+◌, ◌-◌, ◌≤◌, ◌<◌, get_or, List, [], ◌∷◌, ◌++◌, take, drop, map, length, refl, sym, ◌∙◌, ap, arith, Ok, Some, None, length-drop, length-append}
+use Rattle.std.proofs.Common.{◌≡◌, ⊎_elim, ℕ, ◌+◌, ◌≤◌, ◌<◌, get_or, List, [], ◌∷◌, ◌++◌, take, drop, map, length, sym, ◌∙◌, ap, arith, Ok, Some, length-drop, length-append}
 use Rattle.std.proofs.Math.ListN.{drop_of_length-le}
 use Rattle.std.proofs.Math.Seq.{drop-nil}
 use Rattle.std.proofs.lemmas.Bool.{cases_lt}
@@ -49,11 +49,11 @@ spelled_more k es i x told spells so_far =
     ⊎_elim
     (λ (lt : i < k). ([], ap (map txn_of) (drop_of_length-le (take (i + 1) es) {i = k} (omega (arith, lt, length-take-le (i + 1) es (omega (arith, here)))))))
     (λ (le : k ≤ i).
-        let ops = spells le in
-        let longer : drop k (take (i + 1) es) ≡ drop k (take i es) ++ e ∷ [] =
-        ap (drop k) (take_more es i no_entry here) ∙ drop-append-le k (take i es) (e ∷ []) (omega (arith, le, length-take-le i es (omega (arith, here)))) in (
-          so_far.0 ++ ops.0 ∷ [],
-          spells_as (drop k (take i es) ++ e ∷ []) (drop k (take (i + 1) es)) (so_far.0 ++ ops.0 ∷ []) (sym longer)
+    let ops = spells le in
+    let longer : drop k (take (i + 1) es) ≡ drop k (take i es) ++ e ∷ [] =
+    ap (drop k) (take_more es i no_entry here) ∙ drop-append-le k (take i es) (e ∷ []) (omega (arith, le, length-take-le i es (omega (arith, here)))) in (
+      so_far.0 ++ ops.0 ∷ [],
+      spells_as (drop k (take i es) ++ e ∷ []) (drop k (take (i + 1) es)) (so_far.0 ++ ops.0 ∷ []) (sym longer)
           (spells_more (drop k (take i es)) so_far.0 e ops.0 so_far.1 (told_payload e (drop (i + 1) es) x one ∙ ops.1)),
-        ))
+    ))
     (cases_lt i k)

@@ -1,5 +1,5 @@
 -- A tree on its way through a journal's transactions stands for what lies at the end of this way.
-use Rattle.std.proofs.Common.{◌≡◌, ℕ, ◌+◌, ◌-◌, ◌≤◌, List, drop, map, length, sym, ◌∙◌, ap, subst, arith, Some}
+use Rattle.std.proofs.Common.{◌≡◌, ℕ, ◌+◌, ◌≤◌, List, map, length, sym, ◌∙◌, ap, subst, arith, Some}
 use Rattle.fs_model.specs.declared.op.Op.{Op}
 use Rattle.fs_model.specs.Objects.{Objects}
 use Rattle.tree_api.specs.Tree.{Tree}
@@ -11,7 +11,7 @@ use Rattle.store_history.specs.Journal.{txn_of, Spells, above, IsAbove}
 use Rattle.store_history.specs.Pair.{StandsAt}
 use Rattle.store_turns.specs.Theory.{Reads, Theory}
 
-some_head : (a b : Head) → Some a ≡ Some b → a ≡ b
+pub some_head : (a b : Head) → Some a ≡ Some b → a ≡ b
 some_head a b e = cc
 
 -- wherever the ring begins, above m there are the same entries as above n where the two are one number

@@ -1,5 +1,5 @@
 -- Why a mount gives up: what is so of the tree and of the device's bytes as they read.
-use Rattle.std.specs.Prelude.{◌≡◌, ℕ, ◌+◌, ◌≤◌, ◌<◌, List, drop, Some, None, Ok}
+use Rattle.std.specs.Prelude.{◌≡◌, ℕ, ◌+◌, ◌-◌, ◌≤◌, ◌<◌, List, take, drop, Some, None, Ok}
 use Rattle.fs_model.specs.declared.op.Op.{Op}
 use Rattle.txn_codec.specs.Reading.{decoded}
 use Rattle.tree_api.specs.Tree.{Tree}
@@ -10,7 +10,7 @@ use Rattle.ring_journal.specs.declared.blob.Stored.{Stored}
 use Rattle.ring_journal.specs.State.{IsOtherRing, IsSpent, IsUnspent, told_first}
 use Rattle.store_history.specs.Journal.{Spells, above}
 use Rattle.store_mount.specs.declared.fault.MountFault.{MountFault}
-use Rattle.store_mount.specs.declared.fault.MountFault.TheVariants.{NoHeader, WrongFsid, Spent, BadSeq, JournalGap, Damaged, BadEntry, Tree, Device, Memory}
+use Rattle.store_mount.specs.declared.fault.MountFault.TheVariants.{NoHeader, WrongFsid, Spent, BadSeq, JournalGap, Damaged, BadEntry, Tree as OfTree, Device, Memory}
 
 -- it comes before any entry is done again
 abbrev pub IsFoundFirst : MountFault → Type 0
@@ -21,13 +21,13 @@ IsFoundFirst BadSeq = Unit {0}
 IsFoundFirst (JournalGap start committed) = Unit {0}
 IsFoundFirst (Damaged path) = ⊥
 IsFoundFirst (BadEntry seq) = ⊥
-IsFoundFirst Tree = ⊥
+IsFoundFirst OfTree = ⊥
 IsFoundFirst Device = ⊥
 IsFoundFirst Memory = ⊥
 
 -- it says nothing of what the store holds
 abbrev pub IsOutside : MountFault → Type 0
-IsOutside Tree = Unit {0}
+IsOutside OfTree = Unit {0}
 IsOutside Device = Unit {0}
 IsOutside Memory = Unit {0}
 IsOutside NoHeader = ⊥
@@ -38,16 +38,22 @@ IsOutside (JournalGap start committed) = ⊥
 IsOutside (Damaged path) = ⊥
 IsOutside (BadEntry seq) = ⊥
 
--- the ring begins further than one behind the committed number
-pub record IsGap (number : Tree → ℕ → Type 0) (t : Tree) (bytes : List ℕ) (start committed : ℕ) : Type 0 where
+-- the bytes have a ring that may be loaded for the fsid
+pub record Loads (bytes fsid : List ℕ) : Type 0 where
   pub head : Head
   pub header : head_of bytes ≡ Some head
-  pub start_is : start ≡ head.seq
+  pub fsid_is : head.fsid ≡ fsid
+  pub unspent : IsUnspent head
+
+-- such a ring begins further than one behind the committed number
+pub record IsGap (number : Tree → ℕ → Type 0) (fsid : List ℕ) (t : Tree) (bytes : List ℕ) (start committed : ℕ) : Type 0 where
+  pub loads : Loads bytes fsid
+  pub start_is : start ≡ loads.head.seq
   pub number_is : number t committed
   pub gap : committed + 1 < start
 
 -- Of these entries, the first of which has the number `first`, the one with the number seq is above n and spells no
--- transaction.
+-- transaction, and those before it that are above n do.
 pub record IsBadEntry (n first : ℕ) (es : List Entry) (seq : ℕ) : Type 0 where
   pub place : ℕ
   pub stored : Stored
@@ -55,14 +61,15 @@ pub record IsBadEntry (n first : ℕ) (es : List Entry) (seq : ℕ) : Type 0 whe
   pub number : seq ≡ first + place
   pub above : n < seq
   pub spells_none : (ops : List Op) → decoded stored.payload ≡ Ok ops → ⊥
+  pub before : (txns : List (List Op)) × Spells (drop (n + 1 - first) (take place es)) txns
 
--- of the ring's entries above the committed number it is one that spells none
-pub record HasBadEntry (number : Tree → ℕ → Type 0) (t : Tree) (bytes : List ℕ) (seq : ℕ) : Type 0 where
-  pub head : Head
-  pub header : head_of bytes ≡ Some head
+-- of such a ring's entries above the committed number this is the first that spells none
+pub record HasBadEntry (number : Tree → ℕ → Type 0) (fsid : List ℕ) (t : Tree) (bytes : List ℕ) (seq : ℕ) : Type 0 where
+  pub loads : Loads bytes fsid
   pub committed : ℕ
   pub number_is : number t committed
-  pub bad : IsBadEntry committed head.seq (readable bytes) seq
+  pub no_gap : loads.head.seq ≤ committed + 1
+  pub bad : IsBadEntry committed loads.head.seq (readable bytes) seq
 
 -- why the bytes have no ring that may be loaded for the fsid
 abbrev pub RefusesRing : List ℕ → List ℕ → MountFault → Type 0
@@ -71,7 +78,7 @@ RefusesRing bytes fsid (WrongFsid tree ring) = (tree ≡ fsid) × IsOtherRing by
 RefusesRing bytes fsid Spent = IsSpent bytes fsid
 RefusesRing bytes fsid Device = Unit {0}
 RefusesRing bytes fsid Memory = Unit {0}
-RefusesRing bytes fsid Tree = ⊥
+RefusesRing bytes fsid OfTree = ⊥
 RefusesRing bytes fsid BadSeq = ⊥
 RefusesRing bytes fsid (JournalGap start committed) = ⊥
 RefusesRing bytes fsid (Damaged path) = ⊥
@@ -80,7 +87,7 @@ RefusesRing bytes fsid (BadEntry seq) = ⊥
 -- why the tree has no committed number
 abbrev pub RefusesNumber : (Tree → ℕ → Type 0) → Tree → MountFault → Type 0
 RefusesNumber number t BadSeq = (n : ℕ) → number t n → ⊥
-RefusesNumber number t Tree = Unit {0}
+RefusesNumber number t OfTree = Unit {0}
 RefusesNumber number t Memory = Unit {0}
 RefusesNumber number t Device = ⊥
 RefusesNumber number t NoHeader = ⊥
@@ -94,7 +101,7 @@ RefusesNumber number t (BadEntry seq) = ⊥
 abbrev pub RefusesEntry : ℕ → Stored → MountFault → Type 0
 RefusesEntry n stored (BadEntry seq) = (seq ≡ stored.seq) × (n < stored.seq) × ((ops : List Op) → decoded stored.payload ≡ Ok ops → ⊥)
 RefusesEntry n stored (Damaged path) = Unit {0}
-RefusesEntry n stored Tree = Unit {0}
+RefusesEntry n stored OfTree = Unit {0}
 RefusesEntry n stored Memory = Unit {0}
 RefusesEntry n stored Device = ⊥
 RefusesEntry n stored NoHeader = ⊥
@@ -107,7 +114,7 @@ RefusesEntry n stored (JournalGap start committed) = ⊥
 abbrev pub RefusesReplay : ℕ → ℕ → List Entry → MountFault → Type 0
 RefusesReplay n first es (BadEntry seq) = IsBadEntry n first es seq
 RefusesReplay n first es (Damaged path) = Unit {0}
-RefusesReplay n first es Tree = Unit {0}
+RefusesReplay n first es OfTree = Unit {0}
 RefusesReplay n first es Memory = Unit {0}
 RefusesReplay n first es Device = Unit {0}
 RefusesReplay n first es NoHeader = ⊥
@@ -116,26 +123,23 @@ RefusesReplay n first es Spent = ⊥
 RefusesReplay n first es BadSeq = ⊥
 RefusesReplay n first es (JournalGap start committed) = ⊥
 
--- why the two can't be mounted
+-- why the two can't be mounted: just one of these is so, or they can
 abbrev pub Explains : (Tree → ℕ → Type 0) → List ℕ → Tree → List ℕ → MountFault → Type 0
 Explains number fsid t bytes NoHeader = head_of bytes ≡ None
 Explains number fsid t bytes (WrongFsid tree ring) = (tree ≡ fsid) × IsOtherRing bytes fsid ring
 Explains number fsid t bytes Spent = IsSpent bytes fsid
-Explains number fsid t bytes BadSeq = (n : ℕ) → number t n → ⊥
-Explains number fsid t bytes (JournalGap start committed) = IsGap number t bytes start committed
-Explains number fsid t bytes (BadEntry seq) = HasBadEntry number t bytes seq
+Explains number fsid t bytes BadSeq = Loads bytes fsid × ((n : ℕ) → number t n → ⊥)
+Explains number fsid t bytes (JournalGap start committed) = IsGap number fsid t bytes start committed
+Explains number fsid t bytes (BadEntry seq) = HasBadEntry number fsid t bytes seq
 Explains number fsid t bytes (Damaged path) = ⊥
-Explains number fsid t bytes Tree = Unit {0}
+Explains number fsid t bytes OfTree = Unit {0}
 Explains number fsid t bytes Device = Unit {0}
 Explains number fsid t bytes Memory = Unit {0}
 
--- they can: none of these is so
+-- they can, with this committed number
 pub record CanMount (number : Tree → ℕ → Type 0) (fsid : List ℕ) (t : Tree) (bytes : List ℕ) (committed : ℕ) : Type 0 where
-  pub head : Head
-  pub header : head_of bytes ≡ Some head
-  pub fsid_is : head.fsid ≡ fsid
-  pub unspent : IsUnspent head
+  pub loads : Loads bytes fsid
   pub number_is : number t committed
-  pub no_gap : head.seq ≤ committed + 1
+  pub no_gap : loads.head.seq ≤ committed + 1
   pub txns : List (List Op)
-  pub spelled : Spells (above committed head.seq (readable bytes)) txns
+  pub spelled : Spells (above committed loads.head.seq (readable bytes)) txns

@@ -29,6 +29,10 @@ pub record Carries (image : Images Tree) (fsid : List ℕ) (may : Tree → Type 
 abbrev pub PairsCarry : Images Tree → List ℕ → (Tree → Type 0) → Disk → (Tree → Type 0) → Disk → Type 0
 PairsCarry image fsid may d may_now now = (t : Tree) → may_now t → EachImage (Carries image fsid may d t) now
 
+-- the pair as it reads stands for o, with these numbers
+abbrev pub StandsNow : Images Tree → List ℕ → Files → Disk → Objects → ℕ → ℕ → Type 0
+StandsNow image fsid t d o n last = StandsAt image fsid t.tree d.reads o n last
+
 -- What was mounted holds the objects o after its last number: both sides hold one history, which begins at the committed
 -- number n.
 pub record MountedAs (image : Images Tree) (reads : Reads) (fsid : List ℕ) (o : Objects) (n last : ℕ) (m : Mounted) (t : Files) (d : Disk) : Type 0 where
@@ -48,3 +52,7 @@ WasOrStands image fsid may bytes o n last t = may t ⊎ StandsAt image fsid t by
 abbrev pub WasOrServes : Images Tree → List ℕ → Disk → Objects → ℕ → ℕ → List ℕ → Type 0
 WasOrServes image fsid d o n last c =
     (IsImage d c × IsSound d c) ⊎ ((t : Tree) → StandsAt image fsid t d.reads o n last → StandsAt image fsid t c o n last)
+
+-- each pair of a tree that might be left and a sound unspent image stands for o, with these numbers
+abbrev pub AllStand : Images Tree → List ℕ → Objects → ℕ → ℕ → (Tree → Type 0) → Disk → Type 0
+AllStand image fsid o n last may d = (t : Tree) → may t → EachImage (λ c. StandsAt image fsid t c o n last) d

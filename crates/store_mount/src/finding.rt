@@ -1,6 +1,7 @@
 // What a mount finds before it does any entry again.
 ghost use Rattle.std.specs.Prelude.{◌≡◌, ◌≢◌, ◌+◌, ◌<◌, ◌≤◌, ◌^◌, Some, Err, OnOk, IfOk, IfErr, IsErrOf};
 ghost use Rattle.fault_count.specs.Counted.{Counted};
+ghost use Rattle.tree_api.specs.Tree.{Path};
 ghost use Rattle.tree_api.specs.Disk.{Everywhere, Stays, Still};
 ghost use Rattle.dev_api.specs.Disk.{settled};
 ghost use Rattle.dev_api.specs.Run.{KeepsSince};
@@ -39,6 +40,7 @@ fn load<D: Device>(dev: &mut D, fsid: &[u8; 16]) -> Result<Ring, MountFault>
     ensures honest { D.tells dev.new → D.tells dev.old }
     ensures extent { (D.state dev.new).size ≡ (D.state dev.old).size }
     ensures faults { (D.state dev.old).faults ≤ (D.state dev.new).faults }
+    ensures undamaged { (p : Path) → result ≢ Err (MountFault.Damaged p) }
     ensures not_the_tree { IsErrOf result MountFault.Tree → ⊥ }
     ensures cause { IsErrOf result MountFault.Device → Counted (D.state dev.old).faults (D.state dev.new).faults }
 {
@@ -57,6 +59,7 @@ fn committed_number<S: Side>(alloc: Global, side: &mut S) -> Result<u64, MountFa
     ensures refused { S.tells side.new → IfErr result (RefusesNumber S.number (S.disk side.old).tree) }
     ensures told { S.tells side.new → S.tells side.old }
     ensures faults { (S.disk side.old).faults ≤ (S.disk side.new).faults }
+    ensures undamaged { S.tells side.new → (p : Path) → result ≢ Err (MountFault.Damaged p) }
     ensures not_the_device { IsErrOf result MountFault.Device → ⊥ }
     ensures cause { IsErrOf result MountFault.Tree → Counted (S.disk side.old).faults (S.disk side.new).faults }
 {
@@ -91,6 +94,7 @@ pub fn find<S: Side, D: Device>(
     ensures refused { S.tells side.new → D.tells dev.new → IfErr result (Explains S.number fsid.now (S.disk side.old).tree (D.state dev.old).disk.reads) }
     ensures reads { D.tells dev.new → IfErr result (λ fault. IsFoundFirst fault → (D.state dev.new).disk.reads ≡ (D.state dev.old).disk.reads) }
     ensures crash { D.tells dev.new → ReadsSound (D.state dev.old).disk → KeepsSince (Within (D.state dev.old).disk) (D.state dev.old) (D.state dev.new) }
+    ensures undamaged { S.tells side.new → (p : Path) → result ≢ Err (MountFault.Damaged p) }
     ensures told { S.tells side.new → S.tells side.old }
     ensures honest { D.tells dev.new → D.tells dev.old }
     ensures extent { (D.state dev.new).size ≡ (D.state dev.old).size }
@@ -104,7 +108,10 @@ pub fn find<S: Side, D: Device>(
         Err(_) => return Err(MountFault::Tree),
     }
     let ring = load(dev, fsid)?;
-    let committed = committed_number(alloc, side)?;
+    let committed = match committed_number(alloc, side) {
+        Ok(committed) => committed,
+        Err(fault) => return Err(fault),
+    };
     let start = ring.start_seq();
     if start > committed + 1 {
         return Err(MountFault::JournalGap { start, committed });

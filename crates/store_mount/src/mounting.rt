@@ -7,21 +7,21 @@ ghost use Rattle.tree_api.specs.Tree.{Path};
 ghost use Rattle.tree_api.specs.Disk.{Keeps, Stays};
 ghost use Rattle.dev_api.specs.Run.{KeepsSince};
 ghost use Rattle.ring_images.specs.Held.{EachSound, ReadsSound, Within, synced};
-ghost use Rattle.ring_journal.specs.State.{Holds, IsUnspent, IsUnspentImage, Loaded};
+ghost use Rattle.ring_journal.specs.State.{Holds, IsSettled, IsUnspent, IsUnspentImage, Loaded};
 ghost use Rattle.store_history.specs.History.{end_of, replay_of};
-ghost use Rattle.store_history.specs.Journal.{EachImage, IsAbove, RingSide, Spells, above};
+ghost use Rattle.store_history.specs.Journal.{EachImage, IsAbove, RingSide};
 ghost use Rattle.store_history.specs.Pair.{StandsAt};
 ghost use Rattle.store_turns.specs.State.{Fits};
 ghost use Rattle.store_turns.specs.declared.numbers.How.TheVariants.{Live};
 ghost use Rattle.store_mount.specs.Causes.{CanMount, Explains, IsFoundFirst, IsOutside, RefusesReplay};
-ghost use Rattle.store_mount.specs.Mounts.{MountedAs, PairsCarry, WasOrServes, WasOrStands};
-ghost use Rattle.store_mount.specs.Replays.{WhereSpelled};
+ghost use Rattle.store_mount.specs.Mounts.{AllStand, MountedAs, PairsCarry, StandsNow, WasOrServes, WasOrStands};
+ghost use Rattle.store_mount.specs.Replays.{SpellsAbove, WhereSpelled};
 
 use crate::fault::MountFault;
 use crate::finding::find;
 use crate::replaying::replay;
 use dev_api::Device;
-use ring_journal::Ring;
+use ring_journal::{Ring, sound_law};
 use std::alloc::Global;
 use store_journal::reopen;
 use store_turns::{Numbers, Side};
@@ -54,13 +54,13 @@ fn go_on<S: Side, D: Device>(
         (λ h. Keeps (S.image h committed committed (end_of h)) (S.disk side.old) (S.disk side.new)) }
     ensures done { S.tells side.new → D.tells dev.new → WhereSpelled S.image committed ring.old.head.seq (synced (D.state dev.old).disk) (S.disk side.old)
         (λ h. OnOk result (S.reads Live h (end_of h) (S.disk side.new).tree)) }
-    ensures crash { D.tells dev.new → (txns : List (List Op)) → Spells (above committed ring.old.head.seq (synced (D.state dev.old).disk)) txns
+    ensures crash { D.tells dev.new → (txns : List (List Op)) → SpellsAbove committed ring.old (D.state dev.old).disk txns
         → KeepsSince (EachSound (IsAbove ring.old.head.fsid committed txns)) (D.state dev.old) (D.state dev.new) }
-    ensures ring { D.tells dev.new → (before : Objects) (txns : List (List Op)) → Spells (above committed ring.old.head.seq (synced (D.state dev.old).disk)) txns
+    ensures ring { D.tells dev.new → (before : Objects) (txns : List (List Op)) → SpellsAbove committed ring.old (D.state dev.old).disk txns
         → OnOk result (RingSide ring.old.head.fsid (replay_of committed before txns) committed (committed + length txns) (committed + length txns) ring.new (D.state dev.new).disk) }
-    ensures last { D.tells dev.new → (txns : List (List Op)) → Spells (above committed ring.old.head.seq (synced (D.state dev.old).disk)) txns
+    ensures last { D.tells dev.new → (txns : List (List Op)) → SpellsAbove committed ring.old (D.state dev.old).disk txns
         → OnOk result (ring.new.head.seq + ring.new.count ≡ committed + length txns + 1) }
-    ensures spelled { D.tells dev.new → OnOk result ((txns : List (List Op)) × Spells (above committed ring.old.head.seq (synced (D.state dev.old).disk)) txns) }
+    ensures spelled { D.tells dev.new → OnOk result ((txns : List (List Op)) × SpellsAbove committed ring.old (D.state dev.old).disk txns) }
     ensures counts { OnOk result ((last : ℕ) → last + 1 ≡ ring.new.head.seq + ring.new.count → Fits (record { journalled = last; committed = committed }) ring.new) }
     ensures holds { D.tells dev.new → OnOk result (Holds ring.new (D.state dev.new).disk) }
     ensures size { OnOk result (ring.new.head.size ≡ ring.old.head.size) }
@@ -87,8 +87,8 @@ fn go_on<S: Side, D: Device>(
 /// Mounts what a crash or a close has left: does again what the journal has above the tree's committed number, and begins
 /// a new epoch of the journal behind that number.
 ///
-/// Where what reads at entry stands for some objects, the mounted store holds these. At every exit each pair of what a crash may leave
-/// stands for what some pair of before stood for.
+/// Where what reads at entry stands for some objects, the mounted store holds these. At every exit each pair of what a
+/// crash may leave stands for whatever some pair of before stood for.
 pub fn mount<S: Side, D: Device>(
     alloc: Global,
     side: &mut S,
@@ -96,26 +96,33 @@ pub fn mount<S: Side, D: Device>(
     fsid: &[u8; 16],
 ) -> Result<Mounted, MountFault>
     requires laid { S.tells side.old → S.laid (S.disk side.old).tree }
-    ensures done { S.tells side.new → D.tells dev.new → (o : Objects) (n last : ℕ) → StandsAt S.image fsid.now (S.disk side.old).tree (D.state dev.old).disk.reads o n last
+    ensures done { S.tells side.new → D.tells dev.new → (o : Objects) (n last : ℕ) → StandsNow S.image fsid.now (S.disk side.old) (D.state dev.old).disk o n last
         → IfOk result (λ mounted. MountedAs S.image S.reads fsid.now o n last mounted (S.disk side.new) (D.state dev.new).disk) }
     ensures exit { S.tells side.new → D.tells dev.new → ReadsSound (D.state dev.old).disk
         → PairsCarry S.image fsid.now (S.disk side.old).may (D.state dev.old).disk (S.disk side.new).may (D.state dev.new).disk }
-    ensures trees { S.tells side.new → D.tells dev.new → (o : Objects) (n last : ℕ) → StandsAt S.image fsid.now (S.disk side.old).tree (D.state dev.old).disk.reads o n last
+    ensures trees { S.tells side.new → D.tells dev.new → (o : Objects) (n last : ℕ) → StandsNow S.image fsid.now (S.disk side.old) (D.state dev.old).disk o n last
         → Keeps (WasOrStands S.image fsid.now (S.disk side.old).may (D.state dev.old).disk.reads o n last) (S.disk side.old) (S.disk side.new) }
-    ensures journals { S.tells side.new → D.tells dev.new → ReadsSound (D.state dev.old).disk → (o : Objects) (n last : ℕ) → StandsAt S.image fsid.now (S.disk side.old).tree (D.state dev.old).disk.reads o n last
+    ensures journals { S.tells side.new → D.tells dev.new → ReadsSound (D.state dev.old).disk → (o : Objects) (n last : ℕ)
+        → StandsNow S.image fsid.now (S.disk side.old) (D.state dev.old).disk o n last
         → KeepsSince (EachImage (WasOrServes S.image fsid.now (D.state dev.old).disk o n last)) (D.state dev.old) (D.state dev.new) }
+    ensures moments { S.tells side.new → D.tells dev.new → IsSettled (D.state dev.old).disk → IsUnspentImage (D.state dev.old).disk.reads
+        → (o : Objects) (n last : ℕ) → AllStand S.image fsid.now o n last (S.disk side.old).may (D.state dev.old).disk
+        → Keeps (λ t. KeepsSince (EachImage (λ c. StandsAt S.image fsid.now t c o n last)) (D.state dev.old) (D.state dev.new)) (S.disk side.old) (S.disk side.new) }
     ensures counts { IfOk result (λ mounted. Fits mounted.numbers mounted.ring) }
     ensures ready { S.tells side.new → OnOk result (S.ready (S.disk side.new)) }
     ensures holds { D.tells dev.new → IfOk result (λ mounted. Holds mounted.ring (D.state dev.new).disk) }
     ensures size { IfOk result (λ mounted. mounted.ring.head.size ≡ (D.state dev.new).size) }
-    ensures can { S.tells side.new → D.tells dev.new → IfOk result (λ mounted. CanMount S.number fsid.now (S.disk side.old).tree (D.state dev.old).disk.reads mounted.numbers.committed) }
-    ensures refused { S.tells side.new → D.tells dev.new → IfErr result (Explains S.number fsid.now (S.disk side.old).tree (D.state dev.old).disk.reads) }
-    ensures only { S.tells side.new → D.tells dev.new → (o : Objects) (n last : ℕ) → StandsAt S.image fsid.now (S.disk side.old).tree (D.state dev.old).disk.reads o n last
+    ensures can { S.tells side.new → D.tells dev.new
+        → IfOk result (λ mounted. CanMount S.number fsid.now (S.disk side.old).tree (D.state dev.old).disk.reads mounted.numbers.committed) }
+    ensures refused { S.tells side.new → D.tells dev.new
+        → IfErr result (Explains S.number fsid.now (S.disk side.old).tree (D.state dev.old).disk.reads) }
+    ensures only { S.tells side.new → D.tells dev.new → (o : Objects) (n last : ℕ) → StandsNow S.image fsid.now (S.disk side.old) (D.state dev.old).disk o n last
         → IsUnspentImage (D.state dev.old).disk.reads → IfErr result IsOutside }
     ensures tree_stays { S.tells side.new → IfErr result (λ fault. IsFoundFirst fault → Stays (S.disk side.old) (S.disk side.new)) }
     ensures device_reads { D.tells dev.new → IfErr result (λ fault. IsFoundFirst fault → (D.state dev.new).disk.reads ≡ (D.state dev.old).disk.reads) }
-    ensures no_image { D.tells dev.new → ReadsSound (D.state dev.old).disk → IfErr result (λ fault. IsFoundFirst fault → Within (D.state dev.old).disk (D.state dev.new).disk) }
-    ensures undamaged { S.tells side.new → D.tells dev.new → (p : Path) → result ≢ Err (MountFault.Damaged p) }
+    ensures no_image { D.tells dev.new → ReadsSound (D.state dev.old).disk
+        → IfErr result (λ fault. IsFoundFirst fault → Within (D.state dev.old).disk (D.state dev.new).disk) }
+    ensures undamaged { S.tells side.new → (p : Path) → result ≢ Err (MountFault.Damaged p) }
     ensures told { S.tells side.new → S.tells side.old }
     ensures honest { D.tells dev.new → D.tells dev.old }
     ensures extent { (D.state dev.new).size ≡ (D.state dev.old).size }
@@ -124,6 +131,7 @@ pub fn mount<S: Side, D: Device>(
     ensures tree_faults { (S.disk side.old).faults ≤ (S.disk side.new).faults }
     ensures device_faults { (D.state dev.old).faults ≤ (D.state dev.new).faults }
 {
+    sound_law();
     let found = match find(alloc, side, dev, fsid) {
         Ok(found) => found,
         Err(fault) => return Err(fault),

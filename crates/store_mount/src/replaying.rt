@@ -8,11 +8,10 @@ ghost use Rattle.tree_api.specs.Disk.{Keeps};
 ghost use Rattle.ring_images.specs.Held.{synced};
 ghost use Rattle.ring_journal.specs.State.{Ended, Loaded};
 ghost use Rattle.store_history.specs.History.{end_of};
-ghost use Rattle.store_history.specs.Journal.{Spells, above};
 ghost use Rattle.store_turns.specs.Calls.{WhereReplayed};
 ghost use Rattle.store_turns.specs.declared.numbers.How.TheVariants.{Live, Replay};
 ghost use Rattle.store_mount.specs.Causes.{IsFoundFirst, RefusesEntry, RefusesReplay};
-ghost use Rattle.store_mount.specs.Replays.{WhereSpelled};
+ghost use Rattle.store_mount.specs.Replays.{SpellsAbove, WhereSpelled};
 
 use crate::fault::{MountFault, redo_fault};
 use dev_api::Device;
@@ -66,7 +65,7 @@ pub fn replay<S: Side, D: Device>(
         (λ h. Keeps (S.image h committed committed (end_of h)) (S.disk side.old) (S.disk side.new)) }
     ensures done { S.tells side.new → D.tells dev.new → WhereSpelled S.image committed ring.old.head.seq (synced (D.state dev.old).disk) (S.disk side.old)
         (λ h. OnOk result (S.reads Live h (end_of h) (S.disk side.new).tree)) }
-    ensures spelled { D.tells dev.new → OnOk result ((txns : List (List Op)) × Spells (above committed ring.old.head.seq (synced (D.state dev.old).disk)) txns) }
+    ensures spelled { D.tells dev.new → OnOk result ((txns : List (List Op)) × SpellsAbove committed ring.old (D.state dev.old).disk txns) }
     ensures ended { D.tells dev.new → OnOk result (Ended ring.new (D.state dev.new).disk) }
     ensures ready { S.tells side.new → OnOk result (S.ready (S.disk side.new)) }
     ensures head { ring.new.head ≡ ring.old.head }
@@ -90,6 +89,9 @@ pub fn replay<S: Side, D: Device>(
             Err(RingFault::Dev) => return Err(MountFault::Device),
             Err(_) => return Err(MountFault::Memory),
         };
-        redo_entry(alloc, side, &stored, committed)?;
+        match redo_entry(alloc, side, &stored, committed) {
+            Ok(()) => {}
+            Err(fault) => return Err(fault),
+        }
     }
 }

@@ -1,0 +1,26 @@
+use Rattle.std.proofs.Common.{rules, subst}
+use Rattle.tree_api.specs.Tree.{Tree}
+use Rattle.store_mount.specs.Causes.{RefusesNumber, Loads}
+use Rattle.store_mount.proofs.Refusals.{number_explains}
+use Rattle.store_mount.proofs.finding.find.Goals as goal
+
+pub returns-in-Err-committed_number-clause-refused : goal.returns-in-Err-committed_number-clause-refused
+returns-in-Err-committed_number-clause-refused g c = λ tells told.
+    let S = g.S.Side in
+    let same = (c.sync_all.ensures.synced (search rules)).stays.tree in
+    let ring = c.in_ok-ring.ensures in
+    let loads : Loads (g.D.Device.state c.args.dev.now).disk.reads c.args.fsid.now = record { head = c.in_ok-ring.ring.head; header = ring.head told; fsid_is = ring.fsid; unspent = ring.unspent } in
+    number_explains S.number (S.disk c.args.side.now).tree (g.D.Device.state c.args.dev.now).disk.reads c.args.fsid.now loads c.in-Err-committed_number.fault
+    (subst (λ (t : Tree). RefusesNumber S.number t c.in-Err-committed_number.fault) same (c.in-Err-committed_number.ensures.refused (search rules)))
+
+pub returns-then-start-committed-clause-refused : goal.returns-then-start-committed-clause-refused
+returns-then-start-committed-clause-refused g c = λ tells told.
+    let ring = c.in_ok-ring.ensures in
+    let loads : Loads (g.D.Device.state c.args.dev.now).disk.reads c.args.fsid.now = record { head = c.in_ok-ring.ring.head; header = ring.head told; fsid_is = ring.fsid; unspent = ring.unspent } in
+    let same = (c.sync_all.ensures.synced (search rules)).stays.tree in
+    record {
+      loads = loads;
+      start_is = c.start_seq-start.ensures;
+      number_is = subst (λ (t : Tree). g.S.Side.number t c.in-Ok-committed_number.committed) same (c.in-Ok-committed_number.ensures.number tells);
+      gap = c.if-start-committed.true;
+    }
