@@ -97,5 +97,5 @@ names_one (OmapRange c o from to) n is = absurd (none_is n is)
 pub named_coll : (op : Op) (n : Name) → edited op ≡ Some n → (r : Coll × Option Coll) → first_and_second r ≡ colls_named op → r.0 ≡ n.coll
 named_coll op n is r named = head r.0 n.coll (few r.1) [] (named ∙ (names_one op n is).0)
   where
-    head : (a b : Coll) (as bs : List Coll) → a ∷ as ≡ b ∷ bs → a ≡ b
-    head a b as bs e = cc
+    head : (a b : Coll) (more rest : List Coll) → a ∷ more ≡ b ∷ rest → a ≡ b
+    head a b more rest e = cc

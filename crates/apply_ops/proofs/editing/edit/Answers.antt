@@ -1,13 +1,18 @@
 -- Behind the look at the collection, and where it isn't there.
-use Rattle.std.proofs.Common.{rules, ◌≡◌, ℕ, sym, ◌∙◌, ap, subst, Option, None, OnOk, Result}
+use Rattle.std.proofs.Common.{rules, ◌≡◌, ℕ, refl, sym, subst, None, OnOk, Result, Ok, Err}
 use Rattle.fs_names.specs.declared.coll.Coll.{Coll}
 use Rattle.tree_api.specs.Tree.{Tree, Path, IsDir}
 use Rattle.tree_api.specs.Disk.{Disk, Stays}
 use Rattle.tree_stands.specs.Names.{Name}
 use Rattle.tree_stands.specs.Trees.{dir_of}
+use Rattle.object_ops.proofs.Standing.{ready_stays}
 use Rattle.apply_ops.proofs.Rows.{named_coll}
 use Rattle.apply_ops.proofs.Going.{left_out, edit_keeps, edit_done}
 use Rattle.apply_ops.proofs.editing.edit.Goals as goal
+
+then_ok : {T E A B : Type 0} (r : Result T E) → (A → B) → OnOk r A → OnOk r B
+then_ok (Ok v) f a = f a
+then_ok (Err e) f a = tt
 
 -- what stood at the collection's path stands there still
 stood : (old mid : Disk) → Stays old mid → (P : Tree → Path → Type 0) → (c : Coll) (n : Name) → c ≡ n.coll → P old.tree (dir_of c) → P mid.tree (dir_of n.coll)
@@ -21,10 +26,33 @@ returns-then-not-branch-clause-done g c = λ tells s next.
     let d1 = g.T.FileTree.disk c.is_there.new.tree in
     let stays = (c.is_there.ensures.still tells).stays in
     left_out c.args.set.now s c.args.op.now d0 d1 stays next n is (g.met.T.FileTree.sound c.is_there.new.tree tells)
-    (stood d0 d1 stays (λ t p. t.at p ≡ None) _ n (named_coll c.args.op.now n is c.colls.result c.colls.ensures) ?)
+    (stood d0 d1 stays (λ t p. t.at p ≡ None) _ n (named_coll c.args.op.now n is c.colls-coll.result c.colls-coll.ensures) (c.in_ok-is_there.ensures.missing tells (search rules)))
 
 pub returns-clause-keeps : goal.returns-clause-keeps
-returns-clause-keeps g c = ?
+returns-clause-keeps g c = λ tells s next.
+    let n = c.requires.edits.0 in
+    let is = c.requires.edits.1 in
+    let d0 = g.T.FileTree.disk c.args.tree.now in
+    let d1 = g.T.FileTree.disk c.is_there.new.tree in
+    let d2 = g.T.FileTree.disk c.edit_object.new.tree in
+    let told = c.edit_object.ensures.told tells in
+    let stays = (c.is_there.ensures.still told).stays in
+    edit_keeps c.args.set.now s c.args.op.now d0 d1 stays next n is (g.met.T.FileTree.sound c.is_there.new.tree told) (c.name_fits.ensures n is)
+    (stood d0 d1 stays IsDir _ n (named_coll c.args.op.now n is c.colls-coll.result c.colls-coll.ensures) (c.in_ok-is_there.ensures.there told (search rules)))
+    (ready_stays d0 d1 stays c.args.set.now (c.requires.ready (c.is_there.ensures.told told)))
+    d2 (g.met.T.FileTree.sound c.edit_object.new.tree tells) (c.edit_object.ensures.crash tells n is) (c.edit_object.ensures.off tells n is) (c.edit_object.ensures.places tells)
 
 pub returns-clause-done : goal.returns-clause-done
-returns-clause-done g c = ?
+returns-clause-done g c = λ tells s next.
+    let n = c.requires.edits.0 in
+    let is = c.requires.edits.1 in
+    let d0 = g.T.FileTree.disk c.args.tree.now in
+    let d1 = g.T.FileTree.disk c.is_there.new.tree in
+    let d2 = g.T.FileTree.disk c.edit_object.new.tree in
+    let told = c.edit_object.ensures.told tells in
+    let stays = (c.is_there.ensures.still told).stays in
+    then_ok c.edit_object.result (edit_done c.args.set.now s c.args.op.now d0 d1 stays next n is (g.met.T.FileTree.sound c.is_there.new.tree told) (c.name_fits.ensures n is)
+    (stood d0 d1 stays IsDir _ n (named_coll c.args.op.now n is c.colls-coll.result c.colls-coll.ensures) (c.in_ok-is_there.ensures.there told (search rules)))
+    (ready_stays d0 d1 stays c.args.set.now (c.requires.ready (c.is_there.ensures.told told)))
+    d2 (g.met.T.FileTree.sound c.edit_object.new.tree tells) (c.edit_object.ensures.crash tells n is) (c.edit_object.ensures.off tells n is) (c.edit_object.ensures.places tells))
+    (c.edit_object.ensures.done tells n is)
