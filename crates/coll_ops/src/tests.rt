@@ -105,22 +105,29 @@ fn a_collection_that_was_made_is_in_each_image(rt: HostRuntime) -> Result<(), In
     Ok(())
 }
 
-// How many of the calls of these numbers, one failing in each run, leave a drop unanswered.
-fn failed_drops(alloc: Global, calls: u64) -> Result<u64, IndexFault> {
-    let mut failed = 0;
-    for call in 0..calls {
-        let mut numbers = Vec::new(alloc);
-        numbers.push(call)?;
-        if drops(alloc, numbers).is_err() && failed < call + 1 {
-            failed += 1;
-        }
-    }
-    Ok(failed)
-}
-
-// A collection is made and dropped.
-fn drops(alloc: Global, fail: Vec<u64>) -> Result<bool, IndexFault> {
+// A collection is made, dropped and swept. Answers how many calls the tree has had.
+fn run(alloc: Global, fail: Vec<u64>) -> Result<u64, IndexFault> {
     let mut tree = store(alloc, fail)?;
     make(alloc, &mut tree, &COLL)?;
-    drop_at(alloc, &mut tree, &COLL, POS)
+    drop_at(alloc, &mut tree, &COLL, POS)?;
+    sweep_one(alloc, &mut tree)?;
+    Ok(tree.calls())
+}
+
+// Whether the run is refused where the call of this number fails.
+fn is_refused(alloc: Global, call: u64) -> Result<bool, IndexFault> {
+    let mut numbers = Vec::new(alloc);
+    numbers.push(call)?;
+    Ok(matches!(run(alloc, numbers), Err(IndexFault::Tree)))
+}
+
+#[test]
+fn each_call_that_fails_is_told(rt: HostRuntime) -> Result<(), IndexFault> {
+    let alloc = rt.alloc();
+    let calls = run(alloc, Vec::new(alloc))?;
+    for call in 0..calls {
+        assert_eq!(rt; is_refused(alloc, call + 1)?, true, "{call}");
+    }
+    assert_eq!(rt; is_refused(alloc, 0)?, false);
+    Ok(())
 }
