@@ -1,6 +1,6 @@
 -- Names that go with all below them, one run of calls after another.
 use Rattle.std.proofs.Common.{◌≡◌, ◌≢◌, inl, inr, ⊎_elim, ℕ, suc, ◌+◌, ◌<◌, ◌≤◌, Bool, true, false, List, [], ◌∷◌, ◌++◌, length, get_or, refl, sym, ◌∙◌, ap, subst, arith, Option, Some, None, append_assoc}
-use Rattle.std.specs.Prelude.{Result, slice_get}
+use Rattle.std.specs.Prelude.{Result, Ok, slice_get}
 use Rattle.std.proofs.lemmas.Bool.{cases_eq}
 use Rattle.std.proofs.lemmas.List.{length-append, append-nil, append_cancel_left, get_or_default}
 use Rattle.tree_api.specs.Answer.{Before, IsListing, kind_of}
@@ -49,6 +49,9 @@ gone_sweeps p d0 d1 r s0 change =
     leaves_step (R p d0.tree) (sweep_same p d0.tree) (sweep_joins p d0.tree) d0 d1 s0
     (renames (Less p d0.tree) NoNode d0 d1 s0 change.at (λ d c may at nodes. subst (λ (f : Names). Swept p d0.tree.at f) (sym at) (gone_swept p d0.tree.at change.at change.is)) change.step change.partly)
 
+pub name_gone : {T : Type 0} (p r : Path) (d0 d1 : Disk) (v : T) → NameChange {T = T} (Gone p) d0 d1 (Ok v) → p ≡ r → d1.tree.at r ≡ None
+name_gone p r d0 d1 v change same = subst (λ (q : Path). d1.tree.at q ≡ None) same (ap (λ (x : Tree). x.at p) change.ok ∙ change.is.gone)
+
 -- what reads after a run
 pub swept_now : (p : Path) (d0 d1 : Disk) → Sweeps p d0 d1 → Swept p d0.tree.at d1.tree.at
 swept_now p d0 d1 sweeps q = ⊎_elim (λ same. inl (ap (λ (f : Names). f q) same.at)) (λ less. less q) sweeps.now.names
@@ -78,7 +81,7 @@ cleared_none t0 t dir es same = record {
   rest = λ k s le here. ap (λ (x : Tree). x.at (entry dir s)) same;
 }
 
-one_step : (p : Path) → length p ≡ 1 → (s : List ℕ) × (p ≡ s ∷ [])
+pub one_step : (p : Path) → length p ≡ 1 → (s : List ℕ) × (p ≡ s ∷ [])
 one_step [] one = absurd (omega (arith, one))
 one_step (x ∷ []) one = (x, refl)
 one_step (x ∷ y ∷ zs) one = absurd (let e : suc (suc (length zs)) ≡ 1 = one in omega (arith, e))
@@ -250,3 +253,7 @@ module _ (from to : Path) (apart : (q : Path) → Within from q → Within to q 
 
       pub renamed_gone : change.at from ≡ None
       renamed_gone = ap change.at (sym (append-nil from)) ∙ change.is.gone []
+
+      pub renamed_there : IsDir d1.tree from → change.at to ≢ None
+      renamed_there is none =
+          dir_there d1.tree from is (ap d1.tree.at (sym (append-nil from)) ∙ sym (change.is.moved []) ∙ ap change.at (append-nil to) ∙ none)

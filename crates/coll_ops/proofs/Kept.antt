@@ -1,12 +1,12 @@
 -- Collections that stay, and what stays with each name.
-use Rattle.std.proofs.Common.{◌≡◌, ◌≢◌, ⊎_elim, ℕ, true, false, List, refl, sym, ◌∙◌, ap, subst, Option, Some, None}
+use Rattle.std.proofs.Common.{◌≡◌, ◌≢◌, ⊎_elim, ℕ, true, false, List, codes, refl, sym, ◌∙◌, ap, subst, Option, Some, None}
 use Rattle.std.specs.Option.{option_map}
 use Rattle.fs_names.specs.declared.coll.Coll.{Coll}
 use Rattle.fs_names.specs.declared.oid.Oid.{Oid}
 use Rattle.fs_names.specs.declared.settings.Settings.{Settings}
 use Rattle.fs_names.specs.Reading.{OidFits, CollFits}
 use Rattle.tree_api.specs.Answer.{IsStat, kind_of}
-use Rattle.tree_api.specs.Tree.{Path, Version, Names, Tree, IsDir, IsFree, held, look}
+use Rattle.tree_api.specs.Tree.{Path, Version, Names, Tree, IsDir, IsFree, held, look, current}
 use Rattle.tree_api.specs.Disk.{Disk, Sound, From, Leaves}
 use Rattle.tree_api.specs.Renaming.{SameNamed, Renamed}
 use Rattle.tree_api.specs.declared.tree.Kind.{Kind}
@@ -19,6 +19,8 @@ use Rattle.lfn_index.specs.Maps.{Map, IsMap, Whole, AttrLevel}
 use Rattle.lfn_index.proofs.Mapped.{nodes_view, view_map, content_same}
 use Rattle.tree_stands.specs.Trees.{dir_of, guard_of, dir_guard, AllWhole}
 use Rattle.op_effects.specs.Collections.{CollStays, IsEmpty, Makes, Drops}
+use Rattle.op_effects.specs.Ready.{Ready}
+use Rattle.coll_ops.specs.Changes.{AllStay}
 use Rattle.coll_ops.specs.Places.{IsThere}
 use Rattle.coll_ops.proofs.Paths.{coll_dec}
 
@@ -107,6 +109,29 @@ module _ (set : Settings) (c : Coll) (fits : CollFits c) (a b : Tree) (whole : A
 
   pub drops_whole : Drops set c a b → AllWhole set b
   drops_whole drops = each_whole (⊎_elim (λ stays. stays_whole set c a b stays (whole c fits)) (λ gone. gone.empty.whole) drops.here) drops.others
+
+pub all_stay_whole : (set : Settings) (a b : Tree) → AllStay set a b → AllWhole set a → AllWhole set b
+all_stay_whole set a b stay whole c fits = stays_whole set c a b (stay c fits) (whole c fits)
+
+-- what is told of a place that was looked at, and where the store's directories stand
+pub look_dir : (a c : Tree) (q : Path) → look c q ≡ look a q → IsDir a q → IsDir c q
+look_dir a c q same dir = by (c.at q) refl
+  where
+    was : look a q ≡ Some (a.node dir.0)
+    was = ap (λ (y : Option ℕ). held y a.node) dir.1
+
+    by : (x : Option ℕ) → c.at q ≡ x → IsDir c q
+    by None none = absurd (no (sym (ap (λ (y : Option ℕ). held y c.node) none) ∙ same ∙ was))
+      where
+        no : None ≡ Some (a.node dir.0) → ⊥
+        no e = cc
+    by (Some k) some =
+        let e : Some (c.node k) ≡ Some (a.node dir.0) = sym (ap (λ (y : Option ℕ). held y c.node) some) ∙ same ∙ was in
+        let v : c.node k ≡ a.node dir.0 = cc in
+        (k, some, ap (λ (w : Version). w.dir) v ∙ dir.2)
+
+pub ready_current : (set : Settings) (d : Disk) → Sound d → Ready set d → IsDir d.tree current
+ready_current set d sound ready = sound.parents d.tree current (codes "aside") ready.dir.0 sound.now ready.dir.1
 
 -- what stands in nothing isn't there
 pub below_missing : (d : Disk) → Sound d → (c : Tree) → d.may c → (p : Path) → c.at p ≡ None → (s : List ℕ) → c.at (entry p s) ≡ None

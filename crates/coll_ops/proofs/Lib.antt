@@ -1,6 +1,10 @@
 pub mod Adding
 pub mod Clearing
 pub mod Coming
+pub mod Depth
 pub mod Going
 pub mod Kept
+pub mod Lasting
 pub mod Paths
+pub mod Trash
+pub mod Trees

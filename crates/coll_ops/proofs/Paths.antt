@@ -28,7 +28,7 @@ use Rattle.fs_cells.proofs.Looks.{is_coll}
 use Rattle.tree_stands.specs.Trees.{dir_of}
 use Rattle.tree_stands.proofs.Names.{coll_itself, true_not_false}
 use Rattle.tree_stands.proofs.OneFile.{one_coll}
-use Rattle.coll_ops.specs.Places.{trash_at, Within}
+use Rattle.coll_ops.specs.Places.{trash, trash_at, Within}
 
 -- a collection's text is a step of a path
 lower_byte : (base b : ℕ) → base ≤ 16 → is_lower_digit base b ≡ true → IsStepByte b
@@ -131,6 +131,9 @@ module _ (c : Coll) (fits : CollFits c) where
   pub off_place : (s : List ℕ) → Within (dir_of c) (entry aside s) → ⊥
   off_place s is = off_own (codes "aside") (s ∷ []) own_aside is
 
+  pub off_trash : (s : List ℕ) → Within (dir_of c) (entry trash s) → ⊥
+  off_trash s is = off_own (codes "trash") (s ∷ []) own_trash is
+
   module _ (pos : Pos) where
     pub never_trash : Within (trash_at pos) (dir_of c) → ⊥
     never_trash is = shorter (coll_text c) (codes "trash") (place_name pos) is.0 is.1
@@ -149,6 +152,26 @@ aside_trash pos is = shorter (codes "aside") (codes "trash") (place_name pos) is
 
 pub place_trash : (pos : Pos) (s : List ℕ) → Within (trash_at pos) (entry aside s) → ⊥
 place_trash pos s is = apart_names (second (codes "aside") (codes "trash") (s ∷ []) (place_name pos ∷ is.0) is.1)
+
+-- off the trash stand collections and files being built
+pub dir_trash : (c : Coll) → CollFits c → Within trash (dir_of c) → ⊥
+dir_trash c fits is = never_own c fits (codes "trash") own_trash (second (coll_text c) (codes "trash") [] is.0 is.1)
+
+pub entry_trash : (c : Coll) → CollFits c → (s : List ℕ) → Within trash (entry (dir_of c) s) → ⊥
+entry_trash c fits s is = never_own c fits (codes "trash") own_trash (second (coll_text c) (codes "trash") (s ∷ []) is.0 is.1)
+
+pub trash_aside : Within trash aside → ⊥
+trash_aside is = apart_names (second (codes "aside") (codes "trash") [] is.0 is.1)
+
+pub trash_place : (s : List ℕ) → Within trash (entry aside s) → ⊥
+trash_place s is = apart_names (second (codes "aside") (codes "trash") (s ∷ []) is.0 is.1)
+
+third : (x y : List ℕ) (p q : Path) → under (codes "trash") (x ∷ p) ≡ under (codes "trash") (y ∷ q) → x ≡ y
+third x y p q same = cc
+
+-- trees in the trash are apart
+pub trash_entry_off : (s x : List ℕ) → x ≢ s → Within (entry trash s) (entry trash x) → ⊥
+trash_entry_off s x differ is = differ (third x s [] is.0 is.1)
 
 -- a path within one below a second is within the second
 pub within_below : (p x q : Path) → Within (p ++ x) q → Within p q

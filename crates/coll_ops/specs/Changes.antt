@@ -1,15 +1,23 @@
 -- What the calls leave.
 use Rattle.std.specs.Prelude.{◌≡◌, ◌≢◌, ◌⊎◌, ◌≤◌, ℕ, Some, None}
 use Rattle.fault_count.specs.Counted.{Counted}
+use Rattle.fs_names.specs.declared.coll.Coll.{Coll}
+use Rattle.fs_names.specs.declared.settings.Settings.{Settings}
+use Rattle.fs_names.specs.Reading.{CollFits}
 use Rattle.tree_api.specs.Tree.{Path, Names, Tree, look, new_dir}
 use Rattle.tree_api.specs.Disk.{Disk, Everywhere, Leaves}
 use Rattle.tree_api.specs.Renaming.{Renamed, NoNode}
 use Rattle.lfn_index.specs.Moving.{Same}
+use Rattle.op_effects.specs.Collections.{CollStays}
 use Rattle.coll_ops.specs.Places.{Within}
 
 -- what stands at none of these paths is as it was
 abbrev pub Elsewhere : (Path → Type 0) → Tree → Tree → Type 0
 Elsewhere These e f = (q : Path) → (These q → ⊥) → look f q ≡ look e q
+
+-- each collection stays
+abbrev pub AllStay : Settings → Tree → Tree → Type 0
+AllStay set e f = (c : Coll) → CollFits c → CollStays set c e f
 
 -- of the names that read in t all stand, and a new directory at p, node n
 pub record DirAt (p : Path) (n : ℕ) (t c : Tree) : Type 0 where

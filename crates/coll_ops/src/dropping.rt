@@ -1,5 +1,5 @@
 // A collection goes.
-ghost use Rattle.std.specs.Prelude.{◌≡◌, ◌⊎◌, ◌↔◌, OnOk, IfOk, IsErrOf, IsTrue, None};
+ghost use Rattle.std.specs.Prelude.{◌≡◌, ◌⊎◌, ◌↔◌, ℕ, OnOk, IfOk, IsErrOf, IsTrue, None};
 ghost use Rattle.fs_names.specs.declared.settings.Settings.{Settings};
 ghost use Rattle.tree_api.specs.Tree.{Path, IsDir, HasParent};
 ghost use Rattle.tree_api.specs.Disk.{Leaves};
@@ -8,6 +8,7 @@ ghost use Rattle.op_effects.specs.Ready.{Ready};
 ghost use Rattle.op_effects.specs.Collections.{Drops};
 ghost use Rattle.coll_ops.specs.Places.{trash, trash_at, Within};
 ghost use Rattle.coll_ops.specs.Changes.{Throws, Elsewhere, Faults, IsThrown};
+ghost use Rattle.coll_ops.specs.Trash.{HasTrees, TreesAfter, PlaceAfter, DirBelow, IsInTheWay};
 
 use crate::looking::kind_at;
 use crate::places::{coll_path, trash_path};
@@ -27,6 +28,8 @@ fn throw_dir<T: FileTree>(tree: &mut T, from: &TreePath, to: &TreePath) -> Resul
     ensures throws { T.tells tree.new → Throws from.now to.now (T.disk tree.old) (T.disk tree.new) }
     ensures gone { T.tells tree.new → OnOk result ((T.disk tree.new).tree.at from.now ≡ None) }
     ensures grew { T.tells tree.new → IfOk result (λ grew. IsTrue grew ↔ ((T.disk tree.old).tree.at to.now ≡ None)) }
+    ensures place { T.tells tree.new → IfOk result (PlaceAfter ((T.disk tree.old).tree.at to.now) ((T.disk tree.new).tree.at to.now)) }
+    ensures damaged { T.tells tree.new → (q : Path) → IsErrOf result (IndexFault.Damaged q) → DirBelow 9 to.now (T.disk tree.old).tree q }
 {
     let stood = sweep(tree, to)?;
     tree.rename(from, to)?;
@@ -42,6 +45,8 @@ fn throw_away<T: FileTree>(tree: &mut T, from: &TreePath, to: &TreePath) -> Resu
     ensures throws { T.tells tree.new → Throws from.now to.now (T.disk tree.old) (T.disk tree.new) }
     ensures gone { T.tells tree.new → OnOk result ((T.disk tree.new).tree.at from.now ≡ None) }
     ensures grew { T.tells tree.new → IfOk result (λ grew. IsTrue grew ↔ IsThrown from.now to.now (T.disk tree.old).tree) }
+    ensures place { T.tells tree.new → IfOk result (PlaceAfter ((T.disk tree.old).tree.at to.now) ((T.disk tree.new).tree.at to.now)) }
+    ensures damaged { T.tells tree.new → (q : Path) → IsErrOf result (IndexFault.Damaged q) → IsInTheWay from.now to.now (T.disk tree.old).tree q }
 {
     match kind_at(tree, from)? {
         None => Ok(false),
@@ -70,6 +75,8 @@ pub fn drop_coll<T: FileTree>(
     ensures done { T.tells tree.new → OnOk result (dir_guard (T.disk tree.new).tree coll.now ≡ None) }
     ensures ready { T.tells tree.new → OnOk result ((set : Settings) → Ready set (T.disk tree.old) → Ready set (T.disk tree.new)) }
     ensures grew { T.tells tree.new → IfOk result (λ grew. IsTrue grew ↔ IsThrown (dir_of coll.now) (trash_at pos) (T.disk tree.old).tree) }
+    ensures trees { T.tells tree.new → (n : ℕ) → HasTrees (T.disk tree.old).tree n → IfOk result (TreesAfter n (T.disk tree.new).tree) }
+    ensures damaged { T.tells tree.new → (q : Path) → IsErrOf result (IndexFault.Damaged q) → IsInTheWay (dir_of coll.now) (trash_at pos) (T.disk tree.old).tree q }
 {
     coll.fits();
     let path = coll_path(alloc, coll)?;

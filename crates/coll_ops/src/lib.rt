@@ -8,12 +8,19 @@
 #![tactic(auto)]
 
 mod dropping;
+mod emptying;
 mod looking;
 mod making;
 mod places;
 mod sweeping;
 
 pub use dropping::drop_coll;
+pub use emptying::{sweep_first, trash_count};
 pub use making::make_coll;
 pub use places::{coll_path, trash_path};
 pub use sweeping::sweep;
+
+#[cfg(test)]
+mod tests;
+#[cfg(test)]
+mod trials;

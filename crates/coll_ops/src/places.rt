@@ -9,7 +9,7 @@ use lfn_index::aside_path;
 use std::alloc::{AllocError, Global};
 use tree_api::TreePath;
 
-fn current_path(alloc: Global) -> Result<TreePath, AllocError>
+pub(crate) fn current_path(alloc: Global) -> Result<TreePath, AllocError>
     ensures { IfOk result (λ path. path ≡ current) }
 {
     TreePath::root(alloc).join(b"current")
@@ -26,7 +26,7 @@ pub fn coll_path(alloc: Global, coll: &Coll) -> Result<TreePath, AllocError>
     current.join(text.slice())
 }
 
-fn trash_dir(alloc: Global) -> Result<TreePath, AllocError>
+pub(crate) fn trash_dir(alloc: Global) -> Result<TreePath, AllocError>
     ensures { IfOk result (λ path. path ≡ trash) }
 {
     let current = current_path(alloc)?;

@@ -1,8 +1,9 @@
 // Trees in the trash.
-ghost use Rattle.std.specs.Prelude.{◌≡◌, ◌≢◌, ◌↔◌, ◌++◌, [], None, OnOk, IfOk, IsErrOf, IsTrue};
-ghost use Rattle.tree_api.specs.Tree.{IsDir};
+ghost use Rattle.std.specs.Prelude.{◌≡◌, ◌≢◌, ◌↔◌, ◌+◌, ◌++◌, [], None, OnOk, IfOk, IsErrOf, IsTrue};
+ghost use Rattle.tree_api.specs.Tree.{Path, IsDir};
 ghost use Rattle.lfn_index.specs.Entries.{IsEntry};
 ghost use Rattle.coll_ops.specs.Changes.{Sweeps, Faults};
+ghost use Rattle.coll_ops.specs.Trash.{DirBelow};
 
 use crate::looking::kind_at;
 use index_fault::IndexFault;
@@ -21,6 +22,7 @@ pub fn sweep<T: FileTree>(tree: &mut T, path: &TreePath) -> Result<bool, IndexFa
     ensures leaves { T.tells tree.new → Sweeps path.now (T.disk tree.old) (T.disk tree.new) }
     ensures gone { T.tells tree.new → OnOk result ((T.disk tree.new).tree.at path.now ≡ None) }
     ensures stood { T.tells tree.new → IfOk result (λ stood. IsTrue stood ↔ ((T.disk tree.old).tree.at path.now ≢ None)) }
+    ensures damaged { T.tells tree.new → (q : Path) → IsErrOf result (IndexFault.Damaged q) → DirBelow 9 path.now (T.disk tree.old).tree q }
 {
     match kind_at(tree, path)? {
         None => Ok(false),
@@ -44,6 +46,7 @@ fn sweep_dir<T: FileTree>(tree: &mut T, path: &TreePath, levels: u32) -> Result<
     ensures counts { Faults (IsErrOf result IndexFault.Tree) (T.disk tree.old) (T.disk tree.new) }
     ensures leaves { T.tells tree.new → Sweeps path.now (T.disk tree.old) (T.disk tree.new) }
     ensures gone { T.tells tree.new → OnOk result ((T.disk tree.new).tree.at path.now ≡ None) }
+    ensures damaged { T.tells tree.new → (q : Path) → IsErrOf result (IndexFault.Damaged q) → DirBelow (levels + 1) path.now (T.disk tree.old).tree q }
 {
     let entries = tree.list(path)?;
     for entry in &entries {
@@ -66,6 +69,7 @@ fn sweep_entry<T: FileTree>(
     ensures counts { Faults (IsErrOf result IndexFault.Tree) (T.disk tree.old) (T.disk tree.new) }
     ensures leaves { T.tells tree.new → Sweeps (dir.now ++ entry.now.step) (T.disk tree.old) (T.disk tree.new) }
     ensures gone { T.tells tree.new → OnOk result ((T.disk tree.new).tree.at (dir.now ++ entry.now.step) ≡ None) }
+    ensures damaged { T.tells tree.new → (q : Path) → IsErrOf result (IndexFault.Damaged q) → DirBelow levels (dir.now ++ entry.now.step) (T.disk tree.old).tree q }
 {
     if entry.step.steps() != 1 {
         return Ok(());

@@ -1,7 +1,8 @@
-use Rattle.std.proofs.Common.{rules, Ok, ap, ◌∙◌}
+use Rattle.std.proofs.Common.{rules, Ok, ap, sym, ◌∙◌}
 use Rattle.tree_api.specs.Tree.{Tree}
 use Rattle.coll_ops.proofs.Paths.{not_above, not_root}
-use Rattle.coll_ops.proofs.Clearing.{sweeps_throws, dir_off, from_off, dir_there, parent_off, renamed_throws, renamed_gone}
+use Rattle.coll_ops.proofs.Clearing.{sweeps_throws, dir_off, from_off, dir_there, parent_off, renamed_throws, renamed_gone, renamed_there}
+use Rattle.coll_ops.proofs.Trees.{place_after}
 use Rattle.coll_ops.proofs.dropping.throw_dir.Goals as goal
 
 pub sweep-requires : goal.sweep-requires
@@ -55,3 +56,15 @@ returns-clause-gone g c = λ t.
     let change = c.in_ok-rename.ensures.dir (search rules) dir in
     ap (λ (x : Tree). x.at c.args.from.now) change.ok ∙ renamed_gone c.args.from.now c.args.to.now c.requires.apart (disk c.args.tree.now) (disk c.sweep.new.tree) sweeps (disk c.rename.new.self)
     (g.met.T.FileTree.sound c.sweep.new.tree (search rules)) (Ok c.in_ok-rename.field-0) change
+
+pub returns-clause-place : goal.returns-clause-place
+returns-clause-place g c = λ t.
+    let disk = g.T.FileTree.disk in
+    let sweeps = c.sweep.ensures.leaves (search rules) in
+    let off = from_off c.args.from.now c.args.to.now c.requires.apart (disk c.args.tree.now) (disk c.sweep.new.tree) sweeps in
+    let dir = dir_off c.args.from.now c.args.to.now c.requires.apart (disk c.args.tree.now) (disk c.sweep.new.tree) sweeps c.args.from.now off (c.requires.dir (search rules)) in
+    let change = c.in_ok-rename.ensures.dir (search rules) dir in
+    place_after c.in_ok-stood.stood ((disk c.args.tree.now).tree.at c.args.to.now) ((disk c.rename.new.self).tree.at c.args.to.now) (c.in_ok-stood.ensures.stood (search rules))
+    (λ none.
+    renamed_there c.args.from.now c.args.to.now c.requires.apart (disk c.args.tree.now) (disk c.sweep.new.tree) sweeps (disk c.rename.new.self) (g.met.T.FileTree.sound c.sweep.new.tree (search rules)) (Ok c.in_ok-rename.field-0) change dir
+    (sym (ap (λ (x : Tree). x.at c.args.to.now) change.ok) ∙ none))
