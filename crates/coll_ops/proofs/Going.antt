@@ -12,8 +12,8 @@ use Rattle.lfn_index.specs.Directory.{entry}
 use Rattle.lfn_index.specs.Changes.{place_name}
 use Rattle.tree_stands.specs.Trees.{dir_of}
 use Rattle.op_effects.specs.Collections.{IsGone, Drops}
-use Rattle.op_effects.specs.Ready.{Ready}
-use Rattle.coll_ops.specs.Places.{trash, trash_at, Within}
+use Rattle.op_effects.specs.Ready.{Ready, trash}
+use Rattle.coll_ops.specs.Places.{trash_at, Within}
 use Rattle.coll_ops.specs.Changes.{Elsewhere, Thrown, Throws}
 use Rattle.coll_ops.proofs.Kept.{KeepsAt, named_keeps, no_guard, coll_stays, empty_dir, drops_whole, below_missing, leaves_by}
 use Rattle.coll_ops.proofs.Lasting.{IsOff, IsLost, such_keeps, elsewhere, now_keeps, lasting_ready}

@@ -28,49 +28,8 @@ use Rattle.fs_cells.proofs.Looks.{is_coll}
 use Rattle.tree_stands.specs.Trees.{dir_of}
 use Rattle.tree_stands.proofs.Names.{coll_itself, true_not_false}
 use Rattle.tree_stands.proofs.OneFile.{one_coll}
-use Rattle.coll_ops.specs.Places.{trash, trash_at, Within}
-
--- a collection's text is a step of a path
-lower_byte : (base b : ℕ) → base ≤ 16 → is_lower_digit base b ≡ true → IsStepByte b
-lower_byte base b high h = (grind (arith, nat_tests), grind (arith, nat_tests), grind (arith, nat_tests))
-
-digits_steps : (base n : ℕ) → 2 ≤ base → base ≤ 16 → All IsStepByte (digits base false n)
-digits_steps base n low high = All-weaker (λ b. is_lower_digit base b ≡ true) IsStepByte (λ b. lower_byte base b high) (digits base false n) (digits-lower base n low high)
-
-pg_steps : (pool seed : ℕ) (kind : List ℕ) → All IsStepByte kind → All IsStepByte (digits 10 false pool ++ (codes "." ++ (digits 16 false seed ++ kind)))
-pg_steps pool seed kind all =
-    All-append IsStepByte (digits 10 false pool) (codes "." ++ (digits 16 false seed ++ kind)) (digits_steps 10 pool (omega arith) (omega arith))
-    (All-cons IsStepByte 46 (digits 16 false seed ++ kind) (omega arith, omega arith, omega arith)
-    (All-append IsStepByte (digits 16 false seed) kind (digits_steps 16 seed (omega arith) (omega arith)) all))
-
-abbrev plain : ℕ → Bool
-plain b = is_ascii_graphic b && not (b == 47)
-
-plain_byte : (b : ℕ) → plain b ≡ true → IsStepByte b
-plain_byte b h = (grind (arith, nat_tests), grind (arith, nat_tests), grind (arith, nat_tests))
-
-plain_steps : (bytes : List ℕ) → list_all plain bytes ≡ true → All IsStepByte bytes
-plain_steps bytes all = All-weaker (λ b. plain b ≡ true) IsStepByte plain_byte bytes (AllPass-from_list_all plain bytes all)
-
-meta_text : coll_text Meta ≡ codes "meta"
-unfolding coll_text
-meta_text = refl
-
-text_steps : (c : Coll) → All IsStepByte (coll_text c)
-text_steps Meta = subst (All IsStepByte) (sym meta_text) (plain_steps (codes "meta") refl)
-text_steps (Pg pool seed false) = subst (All IsStepByte) (sym (head_text pool seed)) (pg_steps pool seed (codes "_head") (plain_steps (codes "_head") refl))
-text_steps (Pg pool seed true) = subst (All IsStepByte) (sym (temp_text pool seed)) (pg_steps pool seed (codes "_TEMP") (plain_steps (codes "_TEMP") refl))
-
-dotted_some : (xs ys : List ℕ) → 0 < length (xs ++ (codes "." ++ ys))
-dotted_some xs ys = omega (arith, length-append xs (codes "." ++ ys))
-
-text_some : (c : Coll) → 0 < length (coll_text c)
-text_some Meta = subst (λ (l : List ℕ). 0 < length l) (sym meta_text) (omega arith)
-text_some (Pg pool seed false) = subst (λ (l : List ℕ). 0 < length l) (sym (head_text pool seed)) (dotted_some (digits 10 false pool) (digits 16 false seed ++ codes "_head"))
-text_some (Pg pool seed true) = subst (λ (l : List ℕ). 0 < length l) (sym (temp_text pool seed)) (dotted_some (digits 10 false pool) (digits 16 false seed ++ codes "_TEMP"))
-
-pub coll_step : (c : Coll) → IsStep (coll_text c)
-coll_step c = is_step_from (coll_text c) (text_some c) (text_steps c)
+use Rattle.op_effects.specs.Ready.{trash}
+use Rattle.coll_ops.specs.Places.{trash_at, Within}
 
 -- no collection is called as a directory of the store's own is
 pg_none : (a b : Option ℕ) → pg_from a b None ≡ None

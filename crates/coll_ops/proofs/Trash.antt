@@ -17,8 +17,8 @@ use Rattle.lfn_index.specs.Entries.{IsEntry}
 use Rattle.lfn_index.proofs.Listings.{listed_entries, single_step}
 use Rattle.lfn_index.proofs.Seen.{At, rising_at}
 use Rattle.tree_stands.specs.Trees.{dir_of}
-use Rattle.op_effects.specs.Ready.{Ready}
-use Rattle.coll_ops.specs.Places.{trash, Within}
+use Rattle.op_effects.specs.Ready.{Ready, trash}
+use Rattle.coll_ops.specs.Places.{Within}
 use Rattle.coll_ops.specs.Changes.{Elsewhere, Swept, Sweeps, AllStay}
 use Rattle.coll_ops.specs.Trash.{IsFirst, IsFirstStep, FirstGone}
 use Rattle.coll_ops.proofs.Clearing.{one_step, never_root, swept_now}

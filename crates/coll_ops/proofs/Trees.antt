@@ -11,7 +11,8 @@ use Rattle.tree_api.proofs.Nodes.{dec_bytes}
 use Rattle.lfn_index.specs.Directory.{entry}
 use Rattle.lfn_index.specs.Changes.{place_name}
 use Rattle.lfn_index.proofs.Seen.{before_joins, never_before}
-use Rattle.coll_ops.specs.Places.{trash, trash_at}
+use Rattle.op_effects.specs.Ready.{trash}
+use Rattle.coll_ops.specs.Places.{trash_at}
 use Rattle.coll_ops.specs.Trash.{AreApart, HasTrees, TreesAfter, TreesLeft, PlaceAfter, FirstGone, FirstGoes}
 use Rattle.coll_ops.proofs.Paths.{trash_entry_off}
 

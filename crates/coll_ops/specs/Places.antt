@@ -4,11 +4,9 @@ use Rattle.fs_names.specs.declared.settings.Pos.{Pos}
 use Rattle.tree_api.specs.Tree.{Path, Tree, IsFile, IsDir, current}
 use Rattle.tree_api.specs.declared.tree.Kind.{Kind}
 use Rattle.tree_api.specs.declared.tree.Kind.TheVariants.{File, Dir}
+use Rattle.op_effects.specs.Ready.{trash}
 use Rattle.lfn_index.specs.Directory.{entry}
 use Rattle.lfn_index.specs.Changes.{place_name}
-
-abbrev pub trash : Path
-trash = current ++ codes "trash" ∷ []
 
 -- where the operation at this position puts a collection
 abbrev pub trash_at : Pos → Path

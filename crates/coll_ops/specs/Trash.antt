@@ -3,7 +3,8 @@ use Rattle.std.specs.Prelude.{◌≡◌, ◌≢◌, ◌⊎◌, ◌↔◌, ◌<�
 use Rattle.tree_api.specs.Answer.{Before}
 use Rattle.tree_api.specs.Tree.{Path, Tree, IsFile, IsDir}
 use Rattle.lfn_index.specs.Directory.{entry}
-use Rattle.coll_ops.specs.Places.{trash, Within}
+use Rattle.op_effects.specs.Ready.{trash}
+use Rattle.coll_ops.specs.Places.{Within}
 
 -- none is there twice
 abbrev pub AreApart : List (List ℕ) → Type 0

@@ -4,17 +4,18 @@ ghost use Rattle.fs_names.specs.declared.settings.Settings.{Settings};
 ghost use Rattle.tree_api.specs.Tree.{Path, IsDir, HasParent};
 ghost use Rattle.tree_api.specs.Disk.{Leaves};
 ghost use Rattle.tree_stands.specs.Trees.{dir_of, dir_guard};
-ghost use Rattle.op_effects.specs.Ready.{Ready};
+ghost use Rattle.op_effects.specs.Ready.{Ready, trash};
 ghost use Rattle.op_effects.specs.Collections.{Drops};
-ghost use Rattle.coll_ops.specs.Places.{trash, trash_at, Within};
+ghost use Rattle.coll_ops.specs.Places.{trash_at, Within};
 ghost use Rattle.coll_ops.specs.Changes.{Throws, Elsewhere, Faults, IsThrown};
 ghost use Rattle.coll_ops.specs.Trash.{HasTrees, TreesAfter, PlaceAfter, DirBelow, IsInTheWay};
 
 use crate::looking::kind_at;
-use crate::places::{coll_path, trash_path};
+use crate::places::trash_path;
 use crate::sweeping::sweep;
 use fs_names::{Coll, Pos};
 use index_fault::IndexFault;
+use op_effects::coll_path;
 use std::alloc::Global;
 use tree_api::{FileTree, Kind, TreePath};
 

@@ -4,8 +4,8 @@ ghost use Rattle.fs_names.specs.declared.settings.Settings.{Settings};
 ghost use Rattle.tree_api.specs.Tree.{Path, IsDir};
 ghost use Rattle.tree_api.specs.Counts.{Counts};
 ghost use Rattle.tree_api.specs.Disk.{Still, Leaves};
-ghost use Rattle.op_effects.specs.Ready.{Ready};
-ghost use Rattle.coll_ops.specs.Places.{trash, Within};
+ghost use Rattle.op_effects.specs.Ready.{Ready, trash};
+ghost use Rattle.coll_ops.specs.Places.{Within};
 ghost use Rattle.coll_ops.specs.Changes.{Elsewhere, AllStay, Sweeps, Faults};
 ghost use Rattle.coll_ops.specs.Trash.{HasTrees, TreesLeft, IsFirst, FirstGoes, FirstTooDeep};
 

@@ -17,7 +17,7 @@ mod sweeping;
 pub use dropping::drop_coll;
 pub use emptying::{sweep_first, trash_count};
 pub use making::make_coll;
-pub use places::{coll_path, trash_path};
+pub use places::trash_path;
 pub use sweeping::sweep;
 
 #[cfg(test)]

@@ -11,9 +11,9 @@ ghost use Rattle.coll_ops.specs.Places.{Within};
 ghost use Rattle.coll_ops.specs.Changes.{AddsDir, NamesStable, Elsewhere};
 
 use crate::looking::kind_at;
-use crate::places::coll_path;
 use fs_names::Coll;
 use index_fault::IndexFault;
+use op_effects::coll_path;
 use std::alloc::Global;
 use tree_api::{FileTree, Kind, TreePath};
 

@@ -1,10 +1,10 @@
 // Paths of collections and of the trash.
 ghost use Rattle.std.specs.Prelude.{◌≡◌, IfOk};
 ghost use Rattle.tree_api.specs.Tree.{current};
-ghost use Rattle.tree_stands.specs.Trees.{dir_of};
-ghost use Rattle.coll_ops.specs.Places.{trash, trash_at};
+ghost use Rattle.op_effects.specs.Ready.{trash};
+ghost use Rattle.coll_ops.specs.Places.{trash_at};
 
-use fs_names::{Coll, Pos, encode_coll};
+use fs_names::Pos;
 use lfn_index::aside_path;
 use std::alloc::{AllocError, Global};
 use tree_api::TreePath;
@@ -13,17 +13,6 @@ pub(crate) fn current_path(alloc: Global) -> Result<TreePath, AllocError>
     ensures { IfOk result (λ path. path ≡ current) }
 {
     TreePath::root(alloc).join(b"current")
-}
-
-/// Where a collection stands.
-#[tactic(auto, using(crate::proofs::Paths::coll_step))]
-pub fn coll_path(alloc: Global, coll: &Coll) -> Result<TreePath, AllocError>
-    ensures { IfOk result (λ path. path ≡ dir_of coll.now) }
-{
-    coll.fits();
-    let text = encode_coll(alloc, coll)?;
-    let current = current_path(alloc)?;
-    current.join(text.slice())
 }
 
 pub(crate) fn trash_dir(alloc: Global) -> Result<TreePath, AllocError>

@@ -1,8 +1,9 @@
 // Calls for tests, which look first whether they may be made. Each answers `Memory` where what it needs isn't there.
-use crate::places::{coll_path, current_path, trash_dir, trash_path};
+use crate::places::{current_path, trash_dir, trash_path};
 use crate::{drop_coll, make_coll, sweep_first, trash_count};
 use fs_names::{Coll, Pos};
 use index_fault::IndexFault;
+use op_effects::coll_path;
 use std::alloc::Global;
 use tree_api::{FileTree, Kind, TreePath};
 use tree_trials::{add_dir, need_dir, seen};

@@ -1,15 +1,19 @@
 -- What stands on a disk between two operations.
-use Rattle.std.specs.Prelude.{◌≡◌, ◌≢◌, List, ℕ, None}
+use Rattle.std.specs.Prelude.{◌≡◌, ◌≢◌, ◌++◌, ◌∷◌, [], List, ℕ, codes, None}
 use Rattle.fs_names.specs.declared.coll.Coll.{Coll}
 use Rattle.fs_names.specs.declared.settings.Settings.{Settings}
 use Rattle.fs_names.specs.Reading.{CollFits}
-use Rattle.tree_api.specs.Tree.{Path, Tree, IsDir, IsFree, look}
+use Rattle.tree_api.specs.Tree.{Path, Tree, IsDir, IsFree, current, look}
 use Rattle.tree_api.specs.Disk.{Disk, Everywhere}
 use Rattle.lfn_index.specs.Directory.{entry}
 use Rattle.lfn_index.specs.Changes.{aside}
 use Rattle.lfn_index.specs.Maps.{Level}
 use Rattle.lfn_index.specs.OneObject.{IsOff}
 use Rattle.tree_stands.specs.Trees.{dir_of, dir_guard, AllWhole, GuardsLevel}
+
+-- where collections go that are taken away
+abbrev pub trash : Path
+trash = current ++ codes "trash" ∷ []
 
 -- each collection that reads in t is there in e, with the guard that reads
 abbrev pub HasColls : Tree → Tree → Type 0

@@ -16,11 +16,11 @@ use Rattle.tree_stands.proofs.Only.{off_aside}
 use Rattle.commit_point.specs.Number.{number_path, building, number_file, HasNumber, Renumbers}
 use Rattle.commit_point.specs.Replacing.{Replaces}
 use Rattle.store_history.specs.History.{History}
-use Rattle.op_effects.specs.Ready.{OffStays, KeepsPlaces}
+use Rattle.op_effects.specs.Ready.{OffStays, KeepsPlaces, trash}
 use Rattle.op_effects.specs.Collections.{CollStays}
 use Rattle.op_places.proofs.Makes.{past_stays}
 use Rattle.tree_places.specs.Line.{ops_to, count_to, At}
-use Rattle.tree_places.specs.Images.{trash, IsOwn, Image}
+use Rattle.tree_places.specs.Images.{IsOwn, Image}
 use Rattle.tree_places.specs.Own.{OwnStays, OwnLaw}
 use Rattle.tree_places.proofs.Example.{number_is_none}
 

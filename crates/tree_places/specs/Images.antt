@@ -2,6 +2,7 @@
 use Rattle.std.specs.Prelude.{◌≤◌, ℕ, ◌∷◌, ◌++◌, [], List, codes}
 use Rattle.fs_names.specs.declared.settings.Settings.{Settings}
 use Rattle.tree_api.specs.Tree.{Path, Tree, IsDir, IsFree, current}
+use Rattle.op_effects.specs.Ready.{trash}
 use Rattle.lfn_index.specs.Changes.{aside}
 use Rattle.lfn_index.specs.Directory.{entry}
 use Rattle.tree_stands.specs.Trees.{AllWhole}
@@ -10,10 +11,6 @@ use Rattle.store_history.specs.History.{History, end_of}
 use Rattle.store_turns.specs.declared.numbers.How.TheVariants.{Live, Replay}
 use Rattle.store_turns.specs.Theory.{Reads}
 use Rattle.tree_places.specs.Line.{Past}
-
--- where collections go that are taken away
-abbrev pub trash : Path
-trash = current ++ codes "trash" ∷ []
 
 -- the store's own directories are there, no directory is in the way of a file that is built, nor of the committed number
 pub record IsOwn (t : Tree) : Type 0 where

@@ -9,10 +9,10 @@ use Rattle.lfn_index.specs.Directory.{entry}
 use Rattle.tree_stands.specs.Trees.{dir_of}
 use Rattle.commit_point.specs.Number.{number_path, number_file, HasNumber, Renumbers}
 use Rattle.store_history.specs.History.{History}
-use Rattle.op_effects.specs.Ready.{OffStays, KeepsPlaces}
+use Rattle.op_effects.specs.Ready.{OffStays, KeepsPlaces, trash}
 use Rattle.op_effects.specs.Collections.{CollStays}
 use Rattle.tree_places.specs.Line.{At}
-use Rattle.tree_places.specs.Images.{trash, IsOwn, Image}
+use Rattle.tree_places.specs.Images.{IsOwn, Image}
 
 -- the store's own directories and its number are as they were
 pub record OwnStays (e f : Tree) : Type 0 where
