@@ -1,8 +1,8 @@
 -- Operations on one object, and what they make of its file. An operation more is a line of each.
-use Rattle.std.specs.Prelude.{Option, Some, None}
+use Rattle.std.specs.Prelude.{Bool, true, false, Option, Some, None}
 use Rattle.fs_names.specs.Text.{oid_text}
 use Rattle.fs_model.specs.declared.op.Op.{Op}
-use Rattle.fs_model.specs.declared.op.Op.TheVariants.{Touch, Write, Zero, Truncate, Remove, SetAttrs, RmAttr, RmAttrs}
+use Rattle.fs_model.specs.declared.op.Op.TheVariants.{Touch, Write, Zero, Truncate, Remove, SetAttrs, RmAttr, RmAttrs, Clone, CloneRange, MoveRename, OmapClear, OmapSet, OmapRemove, OmapRange}
 use Rattle.tree_api.specs.Tree.{Version, zeros}
 use Rattle.tree_stands.specs.Names.{Name}
 use Rattle.tree_stands.specs.Trees.{name_at}
@@ -31,3 +31,14 @@ file_after (SetAttrs c o pairs) x = attrs_file (oid_text o) pairs x
 file_after (RmAttr c o name) x = attr_gone_file (oid_text o) name x
 file_after (RmAttrs c o) x = attrs_gone_file (oid_text o) x
 file_after _ x = x
+
+-- copies, moves and what concerns the omap are still to come
+abbrev pub is_built : Op → Bool
+is_built (Clone c o c2 o2) = false
+is_built (CloneRange c o c2 o2 from len to) = false
+is_built (MoveRename c o c2 o2) = false
+is_built (OmapClear c o) = false
+is_built (OmapSet c o header pairs) = false
+is_built (OmapRemove c o keys) = false
+is_built (OmapRange c o from to) = false
+is_built _ = true

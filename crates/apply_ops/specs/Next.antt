@@ -1,11 +1,21 @@
--- The next operation of a transaction.
-use Rattle.std.specs.Prelude.{◌≡◌, ℕ, List, slice_get, Some}
+-- The next operation of a transaction, and the next transaction.
+use Rattle.std.specs.Prelude.{◌≡◌, ◌-◌, ℕ, true, List, slice_get, Some}
 use Rattle.fs_names.specs.declared.settings.Settings.{Settings}
 use Rattle.fs_model.specs.declared.op.Op.{Op}
-use Rattle.tree_api.specs.Disk.{Disk}
+use Rattle.fs_model.specs.Check.{IsWithinLimits}
+use Rattle.tree_api.specs.Tree.{IsDir}
+use Rattle.tree_api.specs.Disk.{Disk, Everywhere}
+use Rattle.op_effects.specs.Ready.{Ready, trash}
 use Rattle.store_history.specs.History.{History}
 use Rattle.store_turns.specs.declared.numbers.How.{How}
+use Rattle.tree_places.specs.Images.{Image, reads}
 use Rattle.tree_places.specs.Underway.{IsTurn, Underway}
+use Rattle.apply_ops.specs.Editing.{is_built}
+
+-- any operation may be done
+pub record IsReady (set : Settings) (d : Disk) : Type 0 where
+  pub ready : Ready set d
+  pub removed : IsDir d.tree trash
 
 -- a place in a history: that of the operation at i of the transaction seq, with which images go along from lo to hi
 pub record Spot : Type 0 where
@@ -23,3 +33,12 @@ pub record IsNext (set : Settings) (s : Spot) (op : Op) (d : Disk) : Type 0 wher
   pub turn : IsTurn s.how s.h s.lo s.hi s.seq s.ops
   pub here : slice_get s.ops s.i ≡ Some op
   pub now : Underway set s.how s.h s.n s.lo s.hi s.seq s.i d d
+
+-- each operation is built, and has no fault of its own
+abbrev pub AllFit : List Op → Type 0
+AllFit ops = (i : ℕ) (op : Op) → slice_get ops i ≡ Some op → IsWithinLimits op × (is_built op ≡ true)
+
+-- the operations are the transaction seq, which no image has to be past, and the tree reads as after the one before
+abbrev pub WhereDue : Settings → ℕ → List Op → Disk → (How → History → ℕ → ℕ → ℕ → Type 0) → Type 0
+WhereDue set seq ops old P = (how : How) (h : History) (n lo hi : ℕ) → IsTurn how h lo hi seq ops → Everywhere old (Image set h n lo hi)
+    → reads set how h (seq - 1) old.tree → P how h n lo hi
