@@ -5,3 +5,4 @@ mod Passes
 mod Changes
 mod Opening
 mod Undamaged
+mod PlacesKept
