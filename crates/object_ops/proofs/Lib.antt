@@ -4,5 +4,6 @@ pub mod Standing
 mod Pairs
 mod Passes
 mod Changes
+mod Fresh
 mod Opening
 mod Undamaged
