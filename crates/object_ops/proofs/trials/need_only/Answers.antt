@@ -1,4 +1,4 @@
-use Rattle.std.proofs.Common.{rules, subst, sym, List}
+use Rattle.std.proofs.Common.{rules, subst, List}
 use Rattle.std.specs.Prelude.{All}
 use Rattle.tree_api.specs.declared.tree.Entry.{Entry}
 use Rattle.tree_api.specs.Tree.{Tree}

@@ -1,5 +1,4 @@
-use Rattle.std.proofs.Common.{rules, ap, ◌∙◌, List, ◌++◌, ◌∷◌, []}
-use Rattle.tree_api.specs.Tree.{current}
+use Rattle.std.proofs.Common.{rules}
 use Rattle.object_ops.proofs.Fresh.{looked_ready}
 use Rattle.object_ops.proofs.trials.need_store.Goals as goal
 
