@@ -1,6 +1,5 @@
 -- Where there is no damage none is answered; and what holds of a call's answer.
-use Rattle.std.proofs.Common.{◌≡◌, ◌≢◌, ⊎_elim, ℕ, ◌+◌, ◌≤◌, List, [], ◌∷◌, ◌++◌, length, codes, refl, sym, ◌∙◌, ap, subst, arith, Some, Result, Ok, Err, OnOk, IfOk, IsOk}
-use Rattle.std.specs.Prelude.{IsErrOf}
+use Rattle.std.proofs.Common.{◌≡◌, ◌≢◌, ⊎_elim, ℕ, ◌+◌, ◌≤◌, List, [], ◌∷◌, ◌++◌, length, codes, refl, sym, ◌∙◌, ap, arith, Some, Result, Ok, Err, OnOk, IfOk, IsOk}
 use Rattle.std.proofs.lemmas.List.{length-append}
 use Rattle.fs_names.specs.declared.oid.Oid.{Oid}
 use Rattle.fs_names.specs.declared.settings.Settings.{Settings}
@@ -52,9 +51,6 @@ not_damaged (Err e) only p is = ⊎_elim (λ memory. memory_not memory) (λ tree
     tree_not : e ≡ Refused → ⊥
     tree_not same = let z : Refused ≡ Damaged p = sym same ∙ e_is in cc
 
-pub err_of : {T : Type 0} (r : Result T IndexFault) (f : IndexFault) → r ≡ Err f → IsErrOf r f
-err_of {T} r f is = subst (λ (x : Result T IndexFault). IsErrOf x f) (sym is) refl
-
 pub on_made : {T E : Type 0} (A : T → Type 0) (D : Type 0) (r : Result T E) → IfOk r A → ((v : T) → A v → D) → OnOk r D
 on_made A D (Ok v) a f = f v a
 on_made A D (Err e) a f = tt
@@ -70,10 +66,6 @@ on_made3 A B C D (Err e) a b c f = tt
 pub when_done : {T E : Type 0} (D : Type 0) (r : Result T E) → (IsOk r → D) → OnOk r D
 when_done D (Ok v) f = f refl
 when_done D (Err e) f = tt
-
-pub on_both : {T E : Type 0} (A B C : Type 0) (r : Result T E) → OnOk r A → OnOk r B → (A → B → C) → OnOk r C
-on_both A B C (Ok v) a b f = f a b
-on_both A B C (Err e) a b f = tt
 
 pub on_ok_is : {T E : Type 0} (A B : Type 0) (r : Result T E) → OnOk r A → (A → B) → OnOk r B
 on_ok_is A B (Ok v) a f = f a

@@ -15,3 +15,8 @@ pub use attributes::{rm_attr, rm_attrs, set_attrs};
 pub use bytes::{truncate, write, zero};
 pub use finding::touch;
 pub use removal::remove;
+
+#[cfg(test)]
+mod tests;
+#[cfg(test)]
+mod trials;
