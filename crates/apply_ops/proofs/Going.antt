@@ -1,7 +1,8 @@
 -- An operation on one object that is next: behind a look at its collection, images stay and what reads goes on.
-use Rattle.std.proofs.Common.{◌≡◌, ◌≢◌, ℕ, ◌+◌, Bool, false, ◌&&◌, refl, sym, ◌∙◌, ap, subst, Option, Some, None}
+use Rattle.std.proofs.Common.{◌≡◌, ◌≢◌, ℕ, ◌+◌, Bool, false, ◌&&◌, refl, sym, ◌∙◌, ap, subst, Option, Some, None, Result, Ok, Err, OnOk}
 use Rattle.std.proofs.lemmas.Bool.{cases_Bool}
 use Rattle.std.specs.Option.{is_some, option_map}
+use Rattle.fs_names.specs.declared.coll.Coll.{Coll}
 use Rattle.fs_names.specs.declared.settings.Settings.{Settings}
 use Rattle.fs_model.specs.declared.op.Op.{Op}
 use Rattle.tree_api.specs.Tree.{Version, Tree, IsDir, held}
@@ -18,9 +19,14 @@ use Rattle.apply_ops.specs.Editing.{edited, file_after}
 use Rattle.apply_ops.specs.Next.{Spot, IsNext}
 use Rattle.apply_ops.proofs.Rows.{row_of, edits_one, names_one}
 
+-- what follows where a call answered Ok
+pub then_ok : {T E A B : Type 0} (r : Result T E) → (A → B) → OnOk r A → OnOk r B
+then_ok (Ok v) f a = f a
+then_ok (Err e) f a = tt
+
 -- a directory that stands has a guard to be read, and none is read where nothing stands
-pub guard_there : (t : Tree) (n : Name) → IsDir t (dir_of n.coll) → dir_guard t n.coll ≢ None
-guard_there t n dir none = absurd (some_none (t.node dir.0) (sym (ap (λ (o : Option ℕ). option_map guard_of (held o t.node)) dir.1) ∙ none))
+pub guard_there : (t : Tree) (c : Coll) → IsDir t (dir_of c) → dir_guard t c ≢ None
+guard_there t c dir none = absurd (some_none (t.node dir.0) (sym (ap (λ (o : Option ℕ). option_map guard_of (held o t.node)) dir.1) ∙ none))
   where
     some_none : (v : Version) → Some (guard_of v) ≡ None → ⊥
     some_none v e = cc
@@ -46,10 +52,10 @@ module _ (set : Settings) (s : Spot) (op : Op) (old mid : Disk) (stays : Stays o
         (crash : ObjectCrash set name (file_after op) mid new) (off : Leaves (OffStays (dir_of name.coll)) mid new) (places : Leaves KeepsPlaces mid new) where
       pub edit_keeps : Keeps (Image set s.h s.n s.lo s.hi) old new
       edit_keeps = edit_stops set s.how s.h s.n s.lo s.hi s.seq s.ops next.turn s.i op next.here old mid sound now_mid new sound_new name (row_of op) (file_after op)
-          (edits_one op mid.tree name is fits (guard_there mid.tree name dir)) ready.colls crash
+          (edits_one op mid.tree name is fits (guard_there mid.tree name.coll dir)) ready.colls crash
           (own_keeps_off set s.h s.n s.lo s.hi mid new now_mid.images name.coll off.any_moment places.any_moment)
 
       pub edit_done : ForObject set name (λ x y. y ≡ file_after op x) mid.tree new.tree → Underway set s.how s.h s.n s.lo s.hi s.seq (s.i + 1) old new
       edit_done goes = edits_on set s.how s.h s.n s.lo s.hi s.seq s.ops next.turn s.i op next.here old mid sound now_mid new sound_new name (row_of op) (file_after op)
-          (edits_one op mid.tree name is fits (guard_there mid.tree name dir)) ready.colls crash
+          (edits_one op mid.tree name is fits (guard_there mid.tree name.coll dir)) ready.colls crash
           (own_keeps_off set s.h s.n s.lo s.hi mid new now_mid.images name.coll off.any_moment places.any_moment) goes

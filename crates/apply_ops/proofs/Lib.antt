@@ -1,2 +1,4 @@
 mod Rows
 mod Going
+mod Sites
+mod Colls

@@ -39,8 +39,12 @@ pub fn apply<T: FileTree>(
     ensures ready { T.tells tree.new → OnOk result (IsReady set.now (T.disk tree.new)) }
 {
     match op {
-        Op::MkColl { c } => make_coll(alloc, tree, c),
+        Op::MkColl { c } => {
+            c.fits();
+            make_coll(alloc, tree, c)
+        }
         Op::RmColl { c } => {
+            c.fits();
             let _grew = drop_coll(alloc, tree, c, pos)?;
             Ok(())
         }

@@ -7,7 +7,7 @@ ghost use Rattle.tree_api.specs.Tree.{Path, IsDir, IsFile};
 ghost use Rattle.tree_stands.specs.Names.{Name, NameFits};
 ghost use Rattle.tree_stands.specs.Standing.{ObjectCrash};
 ghost use Rattle.tree_stands.specs.Trees.{dir_of, ForObject};
-ghost use Rattle.op_effects.specs.Ready.{Ready, OffStays, KeepsPlaces};
+ghost use Rattle.op_effects.specs.Ready.{Ready, OffStays, KeepsPlaces, trash as trash_path};
 ghost use Rattle.tree_places.specs.Images.{Image};
 ghost use Rattle.tree_places.specs.Underway.{Underway};
 ghost use Rattle.apply_ops.specs.Editing.{edited, file_after};
@@ -98,6 +98,7 @@ pub fn edit<T: FileTree>(
     ensures done { T.tells tree.new → (s : Spot) → IsNext set.now s op.now (T.disk tree.old)
         → OnOk result (Underway set.now s.how s.h s.n s.lo s.hi s.seq (s.i + 1) (T.disk tree.old) (T.disk tree.new)) }
     ensures ready { T.tells tree.new → OnOk result (Ready set.now (T.disk tree.new)) }
+    ensures trash { T.tells tree.new → IsDir (T.disk tree.old).tree trash_path → IsDir (T.disk tree.new).tree trash_path }
     ensures damaged { T.tells tree.new → (n : Name) (p : Path) → edited op.now ≡ Some n → IsErrOf result (IndexFault.Damaged p) → (p ≡ dir_of n.coll) × IsFile (T.disk tree.old).tree p }
 {
     name_fits(op);

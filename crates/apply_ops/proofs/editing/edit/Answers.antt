@@ -1,5 +1,5 @@
 -- Behind the look at the collection, and where it isn't there.
-use Rattle.std.proofs.Common.{rules, ◌≡◌, ℕ, refl, sym, subst, None, OnOk, Result, Ok, Err}
+use Rattle.std.proofs.Common.{rules, ◌≡◌, ℕ, refl, sym, subst, None}
 use Rattle.fs_names.specs.declared.coll.Coll.{Coll}
 use Rattle.tree_api.specs.Tree.{Tree, Path, IsDir}
 use Rattle.tree_api.specs.Disk.{Disk, Stays}
@@ -7,12 +7,8 @@ use Rattle.tree_stands.specs.Names.{Name}
 use Rattle.tree_stands.specs.Trees.{dir_of}
 use Rattle.object_ops.proofs.Standing.{ready_stays}
 use Rattle.apply_ops.proofs.Rows.{named_coll}
-use Rattle.apply_ops.proofs.Going.{left_out, edit_keeps, edit_done}
+use Rattle.apply_ops.proofs.Going.{then_ok, left_out, edit_keeps, edit_done}
 use Rattle.apply_ops.proofs.editing.edit.Goals as goal
-
-then_ok : {T E A B : Type 0} (r : Result T E) → (A → B) → OnOk r A → OnOk r B
-then_ok (Ok v) f a = f a
-then_ok (Err e) f a = tt
 
 -- what stood at the collection's path stands there still
 stood : (old mid : Disk) → Stays old mid → (P : Tree → Path → Type 0) → (c : Coll) (n : Name) → c ≡ n.coll → P old.tree (dir_of c) → P mid.tree (dir_of n.coll)
