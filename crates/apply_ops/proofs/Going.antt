@@ -1,6 +1,5 @@
 -- An operation on one object that is next: behind a look at its collection, images stay and what reads goes on.
-use Rattle.std.proofs.Common.{◌≡◌, ◌≢◌, ℕ, ◌+◌, Bool, false, ◌&&◌, refl, sym, ◌∙◌, ap, subst, Option, Some, None, Result, Ok, Err, OnOk}
-use Rattle.std.proofs.lemmas.Bool.{cases_Bool}
+use Rattle.std.proofs.Common.{◌≡◌, ◌≢◌, ℕ, ◌+◌, Bool, false, ◌&&◌, refl, sym, ◌∙◌, ap, Option, Some, None, Result, Ok, Err, OnOk}
 use Rattle.std.specs.Option.{is_some, option_map}
 use Rattle.fs_names.specs.declared.coll.Coll.{Coll}
 use Rattle.fs_names.specs.declared.settings.Settings.{Settings}

@@ -2,3 +2,4 @@ mod Rows
 mod Going
 mod Sites
 mod Colls
+mod Steps

@@ -1,5 +1,5 @@
 -- What each operation on one object does, as a row of the theory of replay.
-use Rattle.std.proofs.Common.{◌≡◌, ◌≢◌, ℕ, List, [], ◌∷◌, length, refl, sym, ◌∙◌, ap, subst, Option, Some, None}
+use Rattle.std.proofs.Common.{◌≡◌, ◌≢◌, List, [], ◌∷◌, length, refl, sym, ◌∙◌, ap, subst, Option, Some, None}
 use Rattle.std.specs.Prelude.{slice_index_or}
 use Rattle.fs_names.specs.Text.{oid_text}
 use Rattle.fs_names.specs.declared.coll.Coll.{Coll}

@@ -1,16 +1,16 @@
 -- Making a collection and taking one away leave the store's own directories and number.
-use Rattle.std.proofs.Common.{◌≡◌, ◌⊎◌, inl, inr, ⊎_elim, ℕ, List, [], ◌∷◌, ◌++◌, codes, Bool, true, false, refl, sym, ◌∙◌, ap, Option, Some, None}
+use Rattle.std.proofs.Common.{◌≡◌, ◌⊎◌, inl, inr, ⊎_elim, ℕ, List, [], ◌∷◌, codes, Bool, true, false, refl, sym, ◌∙◌, ap, Option, Some, None}
 use Rattle.fs_names.specs.declared.coll.Coll.{Coll}
 use Rattle.fs_names.specs.declared.settings.Pos.{Pos}
 use Rattle.fs_names.specs.Reading.{CollFits}
 use Rattle.fs_names.specs.Text.{coll_text}
-use Rattle.tree_api.specs.Tree.{Path, Version, Tree, IsDir, IsFile, IsFree, current, look, held}
+use Rattle.tree_api.specs.Tree.{Path, Version, Tree, IsDir, IsFree, current, look, held}
 use Rattle.tree_api.specs.Disk.{Disk, Sound}
 use Rattle.lfn_index.specs.Directory.{entry}
 use Rattle.lfn_index.specs.Changes.{aside, place_name}
 use Rattle.tree_stands.specs.Trees.{dir_of}
 use Rattle.commit_point.specs.Number.{number_path}
-use Rattle.op_effects.specs.Ready.{Ready, trash}
+use Rattle.op_effects.specs.Ready.{trash}
 use Rattle.coll_ops.specs.Places.{trash_at, Within}
 use Rattle.coll_ops.specs.Changes.{Elsewhere}
 use Rattle.coll_ops.proofs.Paths.{IsOwn, own_trash, own_number, never_own, off_aside, off_place, aside_trash, place_trash}

@@ -1,5 +1,5 @@
 -- The two operations on collections, and what is left to those on objects.
-use Rattle.std.proofs.Common.{rules, ap, ⊎_elim}
+use Rattle.std.proofs.Common.{ap, ⊎_elim}
 use Rattle.tree_stands.specs.Trees.{name_at}
 use Rattle.apply_ops.specs.Editing.{edited}
 use Rattle.apply_ops.proofs.Going.{guard_there, then_ok}

@@ -1,5 +1,5 @@
 -- Behind the look at the collection, and where it isn't there.
-use Rattle.std.proofs.Common.{rules, ◌≡◌, ℕ, refl, sym, subst, None}
+use Rattle.std.proofs.Common.{rules, ◌≡◌, sym, subst, None}
 use Rattle.fs_names.specs.declared.coll.Coll.{Coll}
 use Rattle.tree_api.specs.Tree.{Tree, Path, IsDir}
 use Rattle.tree_api.specs.Disk.{Disk, Stays}

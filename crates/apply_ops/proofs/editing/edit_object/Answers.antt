@@ -1,5 +1,5 @@
 -- Each arm speaks of the object that its operation names.
-use Rattle.std.proofs.Common.{rules, ℕ, List, ap, refl, subst}
+use Rattle.std.proofs.Common.{ℕ, List, ap, refl, subst}
 use Rattle.fs_names.specs.Text.{oid_text}
 use Rattle.fs_model.specs.declared.pair.Pair.{Pair}
 use Rattle.tree_stands.specs.Files.{written_file, attrs_file, attr_gone_file}
