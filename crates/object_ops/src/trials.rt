@@ -7,11 +7,11 @@ ghost use Rattle.tree_stands.specs.Trees.{dir_of};
 ghost use Rattle.op_effects.specs.Ready.{Ready};
 ghost use Rattle.object_ops.specs.Trials.{IsKnown, HasOnly, IsBare};
 
-use crate::finding::coll_path;
 use fs_names::{Coll, Oid, Settings, encode_coll};
 use index_fault::IndexFault;
 use lfn_index::find;
 use object_file::{AttrPair, attr_pairs, read};
+use op_effects::coll_path;
 use std::alloc::Global;
 use tree_api::{Bytes, Entry, FileTree, TreePath};
 use tree_trials::need_dir;
@@ -69,7 +69,6 @@ fn need_bare<T: FileTree>(tree: &mut T, dir: &TreePath) -> Result<(), IndexFault
 }
 
 // A store of one collection, which is empty. All is made stable.
-#[tactic(auto, using(crate::proofs::Steps::coll_step))]
 pub(crate) fn need_store<T: FileTree>(
     alloc: Global,
     tree: &mut T,
@@ -83,7 +82,7 @@ pub(crate) fn need_store<T: FileTree>(
     let text = encode_coll(alloc, coll)?;
     let current = TreePath::root(alloc).join(b"current")?;
     let aside = current.join(b"aside")?;
-    let own = current.join(text.slice())?;
+    let own = coll_path(alloc, coll)?;
     need_only(tree, &current, text.slice())?;
     need_bare(tree, &aside)?;
     need_bare(tree, &own)?;

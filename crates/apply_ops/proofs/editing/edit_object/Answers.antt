@@ -72,4 +72,3 @@ pub returns-in-RmAttrs-clause-crash : goal.returns-in-RmAttrs-clause-crash
 returns-in-RmAttrs-clause-crash g c = λ tells n is.
     on_its_name c.args.op.now _ (name_at c.in-RmAttrs.c c.in-RmAttrs.o) n c.in-RmAttrs.is refl is (λ m F. ObjectCrash c.args.set.now m F (g.T.FileTree.disk c.args.tree.now) (g.T.FileTree.disk c.rm_attrs.new.tree))
     (c.rm_attrs.ensures.crash tells)
-
