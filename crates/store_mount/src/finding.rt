@@ -97,7 +97,7 @@ pub fn find<T: FileTree, S: Side<T>, D: Device>(
     ensures unspent { IfOk result (λ found. IsUnspent found.ring.head) }
     ensures size { IfOk result (λ found. found.ring.head.size ≡ (D.state dev.new).size) }
     ensures no_gap { IfOk result (λ found. found.ring.head.seq ≤ found.committed + 1) }
-    ensures refused { T.tells tree.new → D.tells dev.new → IfErr result (Explains S.number fsid.now (T.disk tree.old).tree (D.state dev.old).disk.reads) }
+    ensures refused { T.tells tree.new → D.tells dev.new → IfErr result (Explains S.fits S.number fsid.now (T.disk tree.old).tree (D.state dev.old).disk.reads) }
     ensures reads { D.tells dev.new → IfErr result (λ fault. IsFoundFirst fault → (D.state dev.new).disk.reads ≡ (D.state dev.old).disk.reads) }
     ensures crash { D.tells dev.new → ReadsSound (D.state dev.old).disk → KeepsSince (Within (D.state dev.old).disk) (D.state dev.old) (D.state dev.new) }
     ensures undamaged { T.tells tree.new → (p : Path) → result ≢ Err (MountFault.Damaged p) }

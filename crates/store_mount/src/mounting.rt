@@ -13,7 +13,7 @@ ghost use Rattle.store_history.specs.Journal.{EachImage, IsAbove, RingSide};
 ghost use Rattle.store_history.specs.Pair.{StandsAt};
 ghost use Rattle.store_turns.specs.State.{Fits};
 ghost use Rattle.store_turns.specs.declared.numbers.How.TheVariants.{Live};
-ghost use Rattle.store_mount.specs.Causes.{CanMount, Explains, IsFoundFirst, IsOutside, RefusesReplay};
+ghost use Rattle.store_mount.specs.Causes.{AreFit, CanMount, Explains, IsFoundFirst, IsOutside, RefusesReplay};
 ghost use Rattle.store_mount.specs.Mounts.{AllStand, MountedAs, PairsCarry, StandsNow, WasOrServes, WasOrStands};
 ghost use Rattle.store_mount.specs.Replays.{SpellsAbove, WhereSpelled};
 
@@ -62,12 +62,12 @@ fn go_on<T: FileTree, S: Side<T>, D: Device>(
         → OnOk result (RingSide ring.old.head.fsid (replay_of committed before txns) committed (committed + length txns) (committed + length txns) ring.new (D.state dev.new).disk) }
     ensures last { D.tells dev.new → (txns : List (List Op)) → SpellsAbove committed ring.old (D.state dev.old).disk txns
         → OnOk result (ring.new.head.seq + ring.new.count ≡ committed + length txns + 1) }
-    ensures spelled { D.tells dev.new → OnOk result ((txns : List (List Op)) × SpellsAbove committed ring.old (D.state dev.old).disk txns) }
+    ensures spelled { D.tells dev.new → OnOk result ((txns : List (List Op)) × SpellsAbove committed ring.old (D.state dev.old).disk txns × AreFit S.fits txns) }
     ensures counts { OnOk result ((last : ℕ) → last + 1 ≡ ring.new.head.seq + ring.new.count → Fits (record { journalled = last; committed = committed }) ring.new) }
     ensures holds { D.tells dev.new → OnOk result (Holds ring.new (D.state dev.new).disk) }
     ensures size { OnOk result (ring.new.head.size ≡ ring.old.head.size) }
     ensures ready { T.tells tree.new → OnOk result (S.ready (S.set side.now) (T.disk tree.new)) }
-    ensures refused { D.tells dev.new → IfErr result (RefusesReplay committed ring.old.head.seq (synced (D.state dev.old).disk)) }
+    ensures refused { D.tells dev.new → IfErr result (RefusesReplay S.fits committed ring.old.head.seq (synced (D.state dev.old).disk)) }
     ensures late { IfErr result (λ fault. IsFoundFirst fault → ⊥) }
     ensures undamaged { T.tells tree.new → (p : Path) → result ≢ Err (MountFault.Damaged p) }
     ensures told { T.tells tree.new → T.tells tree.old }
@@ -116,10 +116,11 @@ pub fn mount<T: FileTree, S: Side<T>, D: Device>(
     ensures holds { D.tells dev.new → IfOk result (λ mounted. Holds mounted.ring (D.state dev.new).disk) }
     ensures size { IfOk result (λ mounted. mounted.ring.head.size ≡ (D.state dev.new).size) }
     ensures can { T.tells tree.new → D.tells dev.new
-        → IfOk result (λ mounted. CanMount S.number fsid.now (T.disk tree.old).tree (D.state dev.old).disk.reads mounted.numbers.committed) }
+        → IfOk result (λ mounted. CanMount S.fits S.number fsid.now (T.disk tree.old).tree (D.state dev.old).disk.reads mounted.numbers.committed) }
     ensures refused { T.tells tree.new → D.tells dev.new
-        → IfErr result (Explains S.number fsid.now (T.disk tree.old).tree (D.state dev.old).disk.reads) }
-    ensures only { T.tells tree.new → D.tells dev.new → (o : Objects) (n last : ℕ) → StandsNow (S.image (S.set side.now)) fsid.now (T.disk tree.old) (D.state dev.old).disk o n last
+        → IfErr result (Explains S.fits S.number fsid.now (T.disk tree.old).tree (D.state dev.old).disk.reads) }
+    ensures only { T.tells tree.new → D.tells dev.new → (o : Objects) (n last : ℕ)
+        → (s : StandsNow (S.image (S.set side.now)) fsid.now (T.disk tree.old) (D.state dev.old).disk o n last) → AreFit S.fits s.txns
         → IsUnspentImage (D.state dev.old).disk.reads → IfErr result IsOutside }
     ensures tree_stays { T.tells tree.new → IfErr result (λ fault. IsFoundFirst fault → Stays (T.disk tree.old) (T.disk tree.new)) }
     ensures device_reads { D.tells dev.new → IfErr result (λ fault. IsFoundFirst fault → (D.state dev.new).disk.reads ≡ (D.state dev.old).disk.reads) }

@@ -10,7 +10,7 @@ ghost use Rattle.ring_journal.specs.State.{Ended, Loaded};
 ghost use Rattle.store_history.specs.History.{end_of};
 ghost use Rattle.store_turns.specs.Calls.{WhereReplayed};
 ghost use Rattle.store_turns.specs.declared.numbers.How.TheVariants.{Live, Replay};
-ghost use Rattle.store_mount.specs.Causes.{IsFoundFirst, RefusesEntry, RefusesReplay};
+ghost use Rattle.store_mount.specs.Causes.{AreFit, IsFoundFirst, RefusesEntry, RefusesReplay};
 ghost use Rattle.store_mount.specs.Replays.{SpellsAbove, WhereSpelled};
 
 use crate::fault::{MountFault, redo_fault};
@@ -35,8 +35,8 @@ fn redo_entry<T: FileTree, S: Side<T>>(
         (λ h hi. Keeps (S.image (S.set side.now) h committed committed hi) (T.disk tree.old) (T.disk tree.new)) }
     ensures done { T.tells tree.new → committed < stored.now.seq → WhereReplayed (S.image (S.set side.now)) (S.reads (S.set side.now)) committed stored.now.seq stored.now.payload (T.disk tree.old)
         (λ h hi. OnOk result (S.reads (S.set side.now) Replay h stored.now.seq (T.disk tree.new).tree)) }
-    ensures spelled { committed < stored.now.seq → OnOk result ((ops : List Op) × (decoded stored.now.payload ≡ Ok ops)) }
-    ensures refused { IfErr result (RefusesEntry committed stored.now) }
+    ensures spelled { committed < stored.now.seq → OnOk result ((ops : List Op) × (decoded stored.now.payload ≡ Ok ops) × S.fits ops) }
+    ensures refused { IfErr result (RefusesEntry S.fits committed stored.now) }
     ensures undamaged { T.tells tree.new → (p : Path) → result ≢ Err (MountFault.Damaged p) }
     ensures told { T.tells tree.new → T.tells tree.old }
     ensures faults { (T.disk tree.old).faults ≤ (T.disk tree.new).faults }
@@ -75,13 +75,13 @@ pub fn replay<T: FileTree, S: Side<T>, D: Device>(
         (λ h. Keeps (S.image (S.set side.now) h committed committed (end_of h)) (T.disk tree.old) (T.disk tree.new)) }
     ensures done { T.tells tree.new → D.tells dev.new → WhereSpelled (S.image (S.set side.now)) committed ring.old.head.seq (synced (D.state dev.old).disk) (T.disk tree.old)
         (λ h. OnOk result (S.reads (S.set side.now) Live h (end_of h) (T.disk tree.new).tree)) }
-    ensures spelled { D.tells dev.new → OnOk result ((txns : List (List Op)) × SpellsAbove committed ring.old (D.state dev.old).disk txns) }
+    ensures spelled { D.tells dev.new → OnOk result ((txns : List (List Op)) × SpellsAbove committed ring.old (D.state dev.old).disk txns × AreFit S.fits txns) }
     ensures ended { D.tells dev.new → OnOk result (Ended ring.new (D.state dev.new).disk) }
     ensures ready { T.tells tree.new → OnOk result (S.ready (S.set side.now) (T.disk tree.new)) }
     ensures head { ring.new.head ≡ ring.old.head }
     ensures disk { D.tells dev.new → (D.state dev.new).disk ≡ (D.state dev.old).disk }
     ensures past { D.tells dev.new → (D.state dev.new).past ≡ (D.state dev.old).past }
-    ensures refused { D.tells dev.new → IfErr result (RefusesReplay committed ring.old.head.seq (synced (D.state dev.old).disk)) }
+    ensures refused { D.tells dev.new → IfErr result (RefusesReplay S.fits committed ring.old.head.seq (synced (D.state dev.old).disk)) }
     ensures late { IfErr result (λ fault. IsFoundFirst fault → ⊥) }
     ensures undamaged { T.tells tree.new → (p : Path) → result ≢ Err (MountFault.Damaged p) }
     ensures told { T.tells tree.new → T.tells tree.old }

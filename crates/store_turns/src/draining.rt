@@ -6,7 +6,7 @@ ghost use Rattle.ring_journal.specs.State.{Holds};
 ghost use Rattle.store_history.specs.History.{History};
 ghost use Rattle.store_history.specs.Pair.{PairsStand};
 ghost use Rattle.store_turns.specs.State.{Fits, Holding};
-ghost use Rattle.store_turns.specs.Waiting.{AreDue, AllFit};
+ghost use Rattle.store_turns.specs.Waiting.{AreDue, AllFit, AllMeet};
 
 use crate::committing::commit;
 use crate::numbers::{Numbers, Queued, StoreFault};
@@ -34,6 +34,7 @@ pub fn drain<T: FileTree, S: Side<T>, D: Device>(
     requires extent { (D.state dev.old).size ≡ ring.old.head.size }
     requires ready { T.tells tree.old → S.ready (S.set side.now) (T.disk tree.old) }
     requires holds { D.tells dev.old → Holds ring.old (D.state dev.old).disk }
+    requires fit { AllMeet S.fits waiting.now }
     requires fits { AllFit (ring.old.head.size - 8192) waiting.now }
     ensures counts { OnOk result (Fits core.new ring.new) }
     ensures number { OnOk result (core.new.journalled ≡ core.old.journalled + length waiting.now) }

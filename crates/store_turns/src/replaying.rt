@@ -28,7 +28,7 @@ pub enum RedoFault {
     Tree,
     /// Want of memory.
     Memory,
-    /// Its payload is no transaction.
+    /// Its payload is no transaction, or one that can't be done.
     BadEntry,
 }
 
@@ -60,8 +60,8 @@ pub fn redo<T: FileTree, S: Side<T>>(
         (λ h hi. Keeps (S.image (S.set side.now) h committed committed hi) (T.disk tree.old) (T.disk tree.new)) }
     ensures done { T.tells tree.new → committed < seq → WhereReplayed (S.image (S.set side.now)) (S.reads (S.set side.now)) committed seq payload.now (T.disk tree.old)
         (λ h hi. OnOk result (S.reads (S.set side.now) Replay h seq (T.disk tree.new).tree)) }
-    ensures spelled { committed < seq → OnOk result ((ops : List Op) × (decoded payload.now ≡ Ok ops)) }
-    ensures bad { IsErrOf result RedoFault.BadEntry → (ops : List Op) → decoded payload.now ≡ Ok ops → ⊥ }
+    ensures spelled { committed < seq → OnOk result ((ops : List Op) × (decoded payload.now ≡ Ok ops) × S.fits ops) }
+    ensures bad { IsErrOf result RedoFault.BadEntry → (ops : List Op) → decoded payload.now ≡ Ok ops → S.fits ops → ⊥ }
     ensures above { IsErrOf result RedoFault.BadEntry → committed < seq }
     ensures undamaged { T.tells tree.new → (p : Path) → result ≢ Err (RedoFault.Damaged p) }
     ensures told { T.tells tree.new → T.tells tree.old }
@@ -76,6 +76,9 @@ pub fn redo<T: FileTree, S: Side<T>>(
         Err(CodecFault::Memory) => return Err(RedoFault::Memory),
         Err(_) => return Err(RedoFault::BadEntry),
     };
+    if !side.is_fit(txn.ops.slice()) {
+        return Err(RedoFault::BadEntry);
+    }
     side.apply(alloc, tree, How::Replay, seq, txn.ops.slice())?;
     Ok(())
 }

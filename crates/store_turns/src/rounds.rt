@@ -80,6 +80,7 @@ pub fn round<T: FileTree, S: Side<T>, D: Device>(
     requires extent { (D.state dev.old).size ≡ ring.old.head.size }
     requires ready { T.tells tree.old → S.ready (S.set side.now) (T.disk tree.old) }
     requires holds { D.tells dev.old → Holds ring.old (D.state dev.old).disk }
+    requires fit { S.fits ops.now }
     requires short { length payload.now < 2 ^ 32 }
     requires fits { need_of (length payload.now) ≤ ring.old.head.size - 8192 }
     ensures counts { OnOk result (Fits core.new ring.new) }

@@ -1,7 +1,8 @@
 // The tree's side of a store.
-ghost use Rattle.std.specs.Prelude.{◌≡◌, ◌≢◌, ◌⊎◌, ℕ, ◌-◌, ◌<◌, ◌≤◌, ◌^◌, Err, IfOk, OnOk, IfSome, IfNone, IsOk, IsErr, IsErrOf};
+ghost use Rattle.std.specs.Prelude.{◌≡◌, ◌≢◌, ◌⊎◌, ◌↔◌, ℕ, ◌-◌, ◌<◌, ◌≤◌, ◌^◌, List, Err, IfOk, OnOk, IfSome, IfNone, IsTrue, IsOk, IsErr, IsErrOf};
 ghost use Rattle.fault_count.specs.Counted.{Counted};
 ghost use Rattle.fs_names.specs.declared.settings.Settings.{Settings};
+ghost use Rattle.fs_model.specs.declared.op.Op.{Op};
 ghost use Rattle.tree_api.specs.Tree.{Path, Tree};
 ghost use Rattle.tree_api.specs.Disk.{Disk, Still, Keeps, Everywhere, SyncedAll};
 ghost use Rattle.store_history.specs.History.{History};
@@ -36,6 +37,13 @@ pub trait Side<T: FileTree> {
     /// They may be done now: what reads is laid out so, and what a crash leaves agrees with it where that matters.
     ghost ready: { Settings → Disk → Type 0 };
 
+    /// These operations can be done.
+    ghost fits: { List Op → Type 0 };
+
+    /// Whether they can.
+    fn is_fit(&self, ops: &[Op]) -> bool
+        ensures { IsTrue result ↔ fits ops.now };
+
     /// Does the operations of the transaction `seq`, in order.
     fn apply(
         &self,
@@ -46,6 +54,7 @@ pub trait Side<T: FileTree> {
         ops: &[Op],
     ) -> Result<(), IndexFault>
         requires ready { T.tells tree.old → ready (set self.now) (T.disk tree.old) }
+        requires fit { fits ops.now }
         ensures ready { T.tells tree.new → OnOk result (ready (set self.now) (T.disk tree.new)) }
         ensures keeps { T.tells tree.new → WhereNext (image (set self.now)) (reads (set self.now)) how seq ops.now (T.disk tree.old)
             (λ h n lo hi. Keeps (image (set self.now) h n lo hi) (T.disk tree.old) (T.disk tree.new)) }

@@ -33,10 +33,10 @@ returns-in-Err-clause-journals g c = λ tells told so o n last s.
     keeps_weaker _ _ (found_journals (g.S.Side.image (g.S.Side.set c.args.side.now)) c.args.fsid.now (g.D.Device.state c.args.dev.now).disk o n last) _ _ _ (c.find.ensures.crash (search rules) so)
 
 pub returns-in-Err-clause-only : goal.returns-in-Err-clause-only
-returns-in-Err-clause-only g c = λ tells told o n last s fresh.
+returns-in-Err-clause-only g c = λ tells told o n last s fit fresh.
     let S = g.S.Side in
     let set = S.set c.args.side.now in
-    outside (S.image set) (S.reads set) S.number (S.laid set) (g.met.S.Side.theory set) c.args.fsid.now (g.D.Device.state c.args.dev.now).disk.reads (g.T.FileTree.disk c.args.tree.now).tree o n last s fresh
+    outside S.fits (S.image set) (S.reads set) S.number (S.laid set) (g.met.S.Side.theory set) c.args.fsid.now (g.D.Device.state c.args.dev.now).disk.reads (g.T.FileTree.disk c.args.tree.now).tree o n last s fit fresh
     c.in-Err.fault (c.in-Err.ensures.refused (search rules) (search rules))
 
 pub returns-in-Err-clause-no_image : goal.returns-in-Err-clause-no_image
@@ -106,21 +106,21 @@ returns-in-Err-go_on-clause-refused g c = λ tells told.
     let found = c.in-Ok.found in
     let entry = (g.D.Device.state c.args.dev.now).disk in
     let loads : Loads entry.reads c.args.fsid.now = record { head = found.ring.head; header = c.in-Ok.ensures.head (search rules); fsid_is = c.in-Ok.ensures.fsid; unspent = c.in-Ok.ensures.unspent } in
-    replay_explains S.number (g.T.FileTree.disk c.args.tree.now).tree c.args.fsid.now entry.reads loads found.committed (c.in-Ok.ensures.number (search rules)) c.in-Ok.ensures.no_gap
+    replay_explains S.fits S.number (g.T.FileTree.disk c.args.tree.now).tree c.args.fsid.now entry.reads loads found.committed (c.in-Ok.ensures.number (search rules)) c.in-Ok.ensures.no_gap
     c.in-Err-go_on.fault (λ p e. c.in-Err-go_on.ensures.undamaged (search rules) p (ap Err e))
-    (subst (λ (d : Disk). RefusesReplay found.committed found.ring.head.seq (readable d.stable) c.in-Err-go_on.fault) (c.in-Ok.ensures.same (search rules)) (c.in-Err-go_on.ensures.refused (search rules)))
+    (subst (λ (d : Disk). RefusesReplay S.fits found.committed found.ring.head.seq (readable d.stable) c.in-Err-go_on.fault) (c.in-Ok.ensures.same (search rules)) (c.in-Err-go_on.ensures.refused (search rules)))
 
 pub returns-in-Err-go_on-clause-only : goal.returns-in-Err-go_on-clause-only
-returns-in-Err-go_on-clause-only g c = λ tells told o n last s fresh.
+returns-in-Err-go_on-clause-only g c = λ tells told o n last s fit fresh.
     let S = g.S.Side in
     let set = S.set c.args.side.now in
     let found = c.in-Ok.found in
     let entry = (g.D.Device.state c.args.dev.now).disk in
     let loads : Loads entry.reads c.args.fsid.now = record { head = found.ring.head; header = c.in-Ok.ensures.head (search rules); fsid_is = c.in-Ok.ensures.fsid; unspent = c.in-Ok.ensures.unspent } in
-    outside (S.image set) (S.reads set) S.number (S.laid set) (g.met.S.Side.theory set) c.args.fsid.now entry.reads (g.T.FileTree.disk c.args.tree.now).tree o n last s fresh c.in-Err-go_on.fault
-    (replay_explains S.number (g.T.FileTree.disk c.args.tree.now).tree c.args.fsid.now entry.reads loads found.committed (c.in-Ok.ensures.number (search rules)) c.in-Ok.ensures.no_gap
+    outside S.fits (S.image set) (S.reads set) S.number (S.laid set) (g.met.S.Side.theory set) c.args.fsid.now entry.reads (g.T.FileTree.disk c.args.tree.now).tree o n last s fit fresh c.in-Err-go_on.fault
+    (replay_explains S.fits S.number (g.T.FileTree.disk c.args.tree.now).tree c.args.fsid.now entry.reads loads found.committed (c.in-Ok.ensures.number (search rules)) c.in-Ok.ensures.no_gap
     c.in-Err-go_on.fault (λ p e. c.in-Err-go_on.ensures.undamaged (search rules) p (ap Err e))
-    (subst (λ (d : Disk). RefusesReplay found.committed found.ring.head.seq (readable d.stable) c.in-Err-go_on.fault) (c.in-Ok.ensures.same (search rules)) (c.in-Err-go_on.ensures.refused (search rules))))
+    (subst (λ (d : Disk). RefusesReplay S.fits found.committed found.ring.head.seq (readable d.stable) c.in-Err-go_on.fault) (c.in-Ok.ensures.same (search rules)) (c.in-Err-go_on.ensures.refused (search rules))))
 
 pub returns-in-Err-go_on-clause-moments : goal.returns-in-Err-go_on-clause-moments
 returns-in-Err-go_on-clause-moments g c = λ tells told settled fresh o n last all.
@@ -212,6 +212,7 @@ returns-clause-can g c = λ tells told.
       no_gap = c.in-Ok.ensures.no_gap;
       txns = spelled.0;
       spelled = subst (λ (d : Disk). Spells (above found.committed found.ring.head.seq (readable d.stable)) spelled.0) (c.in-Ok.ensures.same (search rules)) spelled.1;
+      fit = spelled.2;
     }
 
 pub returns-clause-moments : goal.returns-clause-moments

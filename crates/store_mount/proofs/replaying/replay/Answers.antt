@@ -23,7 +23,7 @@ loop-stored-init g c = record {
   tree_faults = omega arith;
   device_faults = omega arith;
   ready = c.requires.ready;
-  spelled = λ told. spelled_none _ _ _ c.requires.untold;
+  spelled = λ told. spelled_none _ _ _ _ c.requires.untold;
   gone = λ tells told.
       let S = g.S.Side in
       let set = S.set c.args.side.now in
@@ -62,7 +62,7 @@ returns-in-Ok-None-clause-spelled g c = λ told.
     let l = ended_length _ _ (if_none _ _ c.in-Ok-None.field-0-is (c.in-Ok-None.ensures.ended told)) in
     let same : c.next.new.self ≡ c.loop-stored.ring = if_none _ _ c.in-Ok-None.field-0-is c.in-Ok-None.ensures.at_end in
     let back = ap (λ (d : Disk). length (readable d.stable)) (c.next.ensures.disk told ∙ inv.disk (search rules)) in
-    spelled_all (c.args.committed + 1 - c.args.ring.now.head.seq) es c.loop-stored.ring.count (sym back ∙ l ∙ ap (λ (s : State). s.count) same) (inv.spelled (search rules))
+    spelled_all g.S.Side.fits (c.args.committed + 1 - c.args.ring.now.head.seq) es c.loop-stored.ring.count (sym back ∙ l ∙ ap (λ (s : State). s.count) same) (inv.spelled (search rules))
 
 pub returns-in-Err : goal.returns-in-Err
 returns-in-Err g c =
@@ -112,7 +112,7 @@ returns-in-Err-redo_entry-clause-refused g c = λ told.
     let seq : c.loop-stored.ring.head.seq ≡ c.args.ring.now.head.seq = ap (λ (h : Head). h.seq) inv.head in
     let one : told_first (drop c.loop-stored.ring.count es) ≡ Some stored =
     sym (sym c.in-Ok-Some.field-0-is ∙ c.in-Ok-Some.ensures.told told ∙ ap (λ (d : Disk). told_first (drop c.loop-stored.ring.count (readable d.stable))) (inv.disk (search rules))) in
-    entry_refuses c.args.committed c.args.ring.now.head.seq c.loop-stored.ring.count es stored one (omega (arith, number.0, seq)) (inv.spelled (search rules))
+    entry_refuses g.S.Side.fits c.args.committed c.args.ring.now.head.seq c.loop-stored.ring.count es stored one (omega (arith, number.0, seq)) (inv.spelled (search rules))
     c.in-Err-redo_entry.fault c.in-Err-redo_entry.ensures.refused
 
 pub loop-stored-smaller : goal.loop-stored-smaller
@@ -147,8 +147,8 @@ loop-stored-preserved g c =
       spelled = λ told.
           let one : told_first (drop c.loop-stored.ring.count es) ≡ Some stored =
           sym (sym c.in-Ok-Some.field-0-is ∙ c.in-Ok-Some.ensures.told told ∙ ap (λ (d : Disk). told_first (drop c.loop-stored.ring.count (readable d.stable))) (inv.disk (search rules))) in
-          subst (λ (i : ℕ). Spelled (c.args.committed + 1 - first) es i) (sym number.1)
-          (spelled_more (c.args.committed + 1 - first) es c.loop-stored.ring.count stored one (λ le. c.in-Ok.ensures.spelled (omega (arith, le, number.0, seq, c.requires.no_gap))) (inv.spelled (search rules)));
+          subst (λ (i : ℕ). Spelled S.fits (c.args.committed + 1 - first) es i) (sym number.1)
+          (spelled_more S.fits (c.args.committed + 1 - first) es c.loop-stored.ring.count stored one (λ le. c.in-Ok.ensures.spelled (omega (arith, le, number.0, seq, c.requires.no_gap))) (inv.spelled (search rules)));
       gone = λ tells told.
           let one : told_first (drop c.loop-stored.ring.count es) ≡ Some stored =
           sym (sym c.in-Ok-Some.field-0-is ∙ c.in-Ok-Some.ensures.told told ∙ ap (λ (d : Disk). told_first (drop c.loop-stored.ring.count (readable d.stable))) (inv.disk (search rules))) in

@@ -20,7 +20,7 @@ invariant-loop-stored g l = record {
   tree_faults : (g.T.FileTree.disk l.fn.tree).faults ≤ (g.T.FileTree.disk l.tree).faults;
   device_faults : (g.D.Device.state l.fn.dev).faults ≤ (g.D.Device.state l.dev).faults;
   ready : g.T.FileTree.tells l.tree → g.S.Side.ready (g.S.Side.set l.side) (g.T.FileTree.disk l.tree);
-  spelled : g.D.Device.tells l.dev → Spelled (l.committed + 1 - l.fn.ring.head.seq) (readable (g.D.Device.state l.fn.dev).disk.stable) l.ring.count;
+  spelled : g.D.Device.tells l.dev → Spelled g.S.Side.fits (l.committed + 1 - l.fn.ring.head.seq) (readable (g.D.Device.state l.fn.dev).disk.stable) l.ring.count;
   gone : g.T.FileTree.tells l.tree → g.D.Device.tells l.dev → WhereSpelled (g.S.Side.image (g.S.Side.set l.side)) l.committed l.fn.ring.head.seq (readable (g.D.Device.state l.fn.dev).disk.stable) (g.T.FileTree.disk l.fn.tree)
       (GoneOn (g.S.Side.image (g.S.Side.set l.side)) (g.S.Side.reads (g.S.Side.set l.side)) l.committed (l.fn.ring.head.seq + l.ring.count) (g.T.FileTree.disk l.fn.tree) (g.T.FileTree.disk l.tree));
 }
