@@ -52,9 +52,11 @@ fn go_on<T: FileTree, S: Side<T>, D: Device>(
     requires no_gap { ring.old.head.seq ≤ committed + 1 }
     requires small { committed < 2 ^ 63 }
     requires ready { T.tells tree.old → S.ready (S.set side.now) (T.disk tree.old) }
-    ensures keeps { T.tells tree.new → D.tells dev.new → WhereSpelled (S.image (S.set side.now)) committed ring.old.head.seq (synced (D.state dev.old).disk) (T.disk tree.old)
+    ensures keeps { T.tells tree.new → D.tells dev.new
+        → WhereSpelled (S.image (S.set side.now)) committed ring.old.head.seq (synced (D.state dev.old).disk) (T.disk tree.old)
         (λ h. Keeps (S.image (S.set side.now) h committed committed (end_of h)) (T.disk tree.old) (T.disk tree.new)) }
-    ensures done { T.tells tree.new → D.tells dev.new → WhereSpelled (S.image (S.set side.now)) committed ring.old.head.seq (synced (D.state dev.old).disk) (T.disk tree.old)
+    ensures done { T.tells tree.new → D.tells dev.new
+        → WhereSpelled (S.image (S.set side.now)) committed ring.old.head.seq (synced (D.state dev.old).disk) (T.disk tree.old)
         (λ h. OnOk result (S.reads (S.set side.now) Live h (end_of h) (T.disk tree.new).tree)) }
     ensures crash { D.tells dev.new → (txns : List (List Op)) → SpellsAbove committed ring.old (D.state dev.old).disk txns
         → KeepsSince (EachSound (IsAbove ring.old.head.fsid committed txns)) (D.state dev.old) (D.state dev.new) }
@@ -99,18 +101,21 @@ pub fn mount<T: FileTree, S: Side<T>, D: Device>(
     fsid: &[u8; 16],
 ) -> Result<Mounted, MountFault>
     requires laid { T.tells tree.old → S.laid (S.set side.now) (T.disk tree.old).tree }
-    ensures done { T.tells tree.new → D.tells dev.new → (o : Objects) (n last : ℕ) → StandsNow (S.image (S.set side.now)) fsid.now (T.disk tree.old) (D.state dev.old).disk o n last
+    ensures done { T.tells tree.new → D.tells dev.new → (o : Objects) (n last : ℕ)
+        → StandsNow (S.image (S.set side.now)) fsid.now (T.disk tree.old) (D.state dev.old).disk o n last
         → IfOk result (λ mounted. MountedAs (S.image (S.set side.now)) (S.reads (S.set side.now)) fsid.now o n last mounted (T.disk tree.new) (D.state dev.new).disk) }
     ensures exit { T.tells tree.new → D.tells dev.new → ReadsSound (D.state dev.old).disk
         → PairsCarry (S.image (S.set side.now)) fsid.now (T.disk tree.old).may (D.state dev.old).disk (T.disk tree.new).may (D.state dev.new).disk }
-    ensures trees { T.tells tree.new → D.tells dev.new → (o : Objects) (n last : ℕ) → StandsNow (S.image (S.set side.now)) fsid.now (T.disk tree.old) (D.state dev.old).disk o n last
+    ensures trees { T.tells tree.new → D.tells dev.new → (o : Objects) (n last : ℕ)
+        → StandsNow (S.image (S.set side.now)) fsid.now (T.disk tree.old) (D.state dev.old).disk o n last
         → Keeps (WasOrStands (S.image (S.set side.now)) fsid.now (T.disk tree.old).may (D.state dev.old).disk.reads o n last) (T.disk tree.old) (T.disk tree.new) }
     ensures journals { T.tells tree.new → D.tells dev.new → ReadsSound (D.state dev.old).disk → (o : Objects) (n last : ℕ)
         → StandsNow (S.image (S.set side.now)) fsid.now (T.disk tree.old) (D.state dev.old).disk o n last
         → KeepsSince (EachImage (WasOrServes (S.image (S.set side.now)) fsid.now (D.state dev.old).disk o n last)) (D.state dev.old) (D.state dev.new) }
     ensures moments { T.tells tree.new → D.tells dev.new → IsSettled (D.state dev.old).disk → IsUnspentImage (D.state dev.old).disk.reads
         → (o : Objects) (n last : ℕ) → AllStand (S.image (S.set side.now)) fsid.now o n last (T.disk tree.old).may (D.state dev.old).disk
-        → Keeps (λ t. KeepsSince (EachImage (λ c. StandsAt (S.image (S.set side.now)) fsid.now t c o n last)) (D.state dev.old) (D.state dev.new)) (T.disk tree.old) (T.disk tree.new) }
+        → Keeps (λ t. KeepsSince (EachImage (λ c. StandsAt (S.image (S.set side.now)) fsid.now t c o n last)) (D.state dev.old) (D.state dev.new))
+        (T.disk tree.old) (T.disk tree.new) }
     ensures counts { IfOk result (λ mounted. Fits mounted.numbers mounted.ring) }
     ensures ready { T.tells tree.new → OnOk result (S.ready (S.set side.now) (T.disk tree.new)) }
     ensures holds { D.tells dev.new → IfOk result (λ mounted. Holds mounted.ring (D.state dev.new).disk) }

@@ -31,9 +31,11 @@ fn redo_entry<T: FileTree, S: Side<T>>(
     requires ready { T.tells tree.old → S.ready (S.set side.now) (T.disk tree.old) }
     ensures ready { T.tells tree.new → OnOk result (S.ready (S.set side.now) (T.disk tree.new)) }
     ensures skipped { stored.now.seq ≤ committed → tree.new ≡ tree.old }
-    ensures keeps { T.tells tree.new → committed < stored.now.seq → WhereReplayed (S.image (S.set side.now)) (S.reads (S.set side.now)) committed stored.now.seq stored.now.payload (T.disk tree.old)
+    ensures keeps { T.tells tree.new → committed < stored.now.seq
+        → WhereReplayed (S.image (S.set side.now)) (S.reads (S.set side.now)) committed stored.now.seq stored.now.payload (T.disk tree.old)
         (λ h hi. Keeps (S.image (S.set side.now) h committed committed hi) (T.disk tree.old) (T.disk tree.new)) }
-    ensures done { T.tells tree.new → committed < stored.now.seq → WhereReplayed (S.image (S.set side.now)) (S.reads (S.set side.now)) committed stored.now.seq stored.now.payload (T.disk tree.old)
+    ensures done { T.tells tree.new → committed < stored.now.seq
+        → WhereReplayed (S.image (S.set side.now)) (S.reads (S.set side.now)) committed stored.now.seq stored.now.payload (T.disk tree.old)
         (λ h hi. OnOk result (S.reads (S.set side.now) Replay h stored.now.seq (T.disk tree.new).tree)) }
     ensures spelled { committed < stored.now.seq → OnOk result ((ops : List Op) × (decoded stored.now.payload ≡ Ok ops) × S.fits ops) }
     ensures refused { IfErr result (RefusesEntry S.fits committed stored.now) }
@@ -71,9 +73,11 @@ pub fn replay<T: FileTree, S: Side<T>, D: Device>(
     requires untold { ring.old.count ≡ 0 }
     requires no_gap { ring.old.head.seq ≤ committed + 1 }
     requires ready { T.tells tree.old → S.ready (S.set side.now) (T.disk tree.old) }
-    ensures keeps { T.tells tree.new → D.tells dev.new → WhereSpelled (S.image (S.set side.now)) committed ring.old.head.seq (synced (D.state dev.old).disk) (T.disk tree.old)
+    ensures keeps { T.tells tree.new → D.tells dev.new
+        → WhereSpelled (S.image (S.set side.now)) committed ring.old.head.seq (synced (D.state dev.old).disk) (T.disk tree.old)
         (λ h. Keeps (S.image (S.set side.now) h committed committed (end_of h)) (T.disk tree.old) (T.disk tree.new)) }
-    ensures done { T.tells tree.new → D.tells dev.new → WhereSpelled (S.image (S.set side.now)) committed ring.old.head.seq (synced (D.state dev.old).disk) (T.disk tree.old)
+    ensures done { T.tells tree.new → D.tells dev.new
+        → WhereSpelled (S.image (S.set side.now)) committed ring.old.head.seq (synced (D.state dev.old).disk) (T.disk tree.old)
         (λ h. OnOk result (S.reads (S.set side.now) Live h (end_of h) (T.disk tree.new).tree)) }
     ensures spelled { D.tells dev.new → OnOk result ((txns : List (List Op)) × SpellsAbove committed ring.old (D.state dev.old).disk txns × AreFit S.fits txns) }
     ensures ended { D.tells dev.new → OnOk result (Ended ring.new (D.state dev.new).disk) }

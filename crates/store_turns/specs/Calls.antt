@@ -1,5 +1,5 @@
 -- What a call on the tree's side starts from, for each history that the tree may stand in.
-use Rattle.std.specs.Prelude.{◌≡◌, ℕ, ◌-◌, ◌<◌, ◌≤◌, List, Ok}
+use Rattle.std.specs.Prelude.{◌≡◌, ◌⊎◌, ℕ, ◌-◌, ◌<◌, ◌≤◌, List, Ok}
 use Rattle.fs_model.specs.declared.op.Op.{Op}
 use Rattle.txn_codec.specs.Reading.{decoded}
 use Rattle.tree_api.specs.Tree.{Tree}
@@ -23,6 +23,14 @@ WhereNext image reads how seq ops old P = (h : History) (n lo hi : ℕ) → lo <
 -- each part of the tree is past the transaction seq, and the committed number is no higher
 abbrev pub WhereDone : Images Tree → ℕ → Files → (History → ℕ → ℕ → ℕ → Type 0) → Type 0
 WhereDone image seq old P = (h : History) (n lo hi : ℕ) → n ≤ seq → seq ≤ lo → Everywhere old (image h n lo hi) → P h n lo hi
+
+-- all up to m is applied, and the committed number is n
+abbrev pub WhereApplied : Images Tree → Reads → ℕ → Files → (History → ℕ → Type 0) → Type 0
+WhereApplied image reads m old P = (h : History) (n : ℕ) → n ≤ m → Everywhere old (image h n n m) → reads Live h m old.tree → P h n
+
+-- a commit is under way: all up to m may be stable, and then the committed number may be m
+abbrev pub IsCommitting : Images Tree → History → ℕ → ℕ → Tree → Type 0
+IsCommitting image h n m t = image h n n m t ⊎ (image h n m m t ⊎ image h m m m t)
 
 -- the payload spells the transaction seq, and the replay of those before it is done
 abbrev pub WhereReplayed : Images Tree → Reads → ℕ → ℕ → List ℕ → Files → (History → ℕ → Type 0) → Type 0

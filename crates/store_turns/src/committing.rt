@@ -7,6 +7,7 @@ ghost use Rattle.ring_journal.specs.State.{Holds};
 ghost use Rattle.store_history.specs.History.{History};
 ghost use Rattle.store_history.specs.Pair.{PairsStand};
 ghost use Rattle.store_turns.specs.declared.numbers.How.TheVariants.{Live};
+ghost use Rattle.store_turns.specs.Calls.{IsCommitting, WhereApplied};
 ghost use Rattle.store_turns.specs.State.{Fits, Holding};
 
 use crate::numbers::{Numbers, StoreFault};
@@ -28,11 +29,12 @@ pub fn put_number<T: FileTree, S: Side<T>>(
     requires ready { T.tells tree.old → S.ready (S.set side.now) (T.disk tree.old) }
     requires small { number < 2 ^ 63 }
     ensures ready { T.tells tree.new → OnOk result (S.ready (S.set side.now) (T.disk tree.new)) }
-    ensures keeps { T.tells tree.new → (h : History) (n : ℕ) → n ≤ number → Everywhere (T.disk tree.old) (S.image (S.set side.now) h n n number) → S.reads (S.set side.now) Live h number (T.disk tree.old).tree
-        → Keeps (λ t. S.image (S.set side.now) h n n number t ⊎ (S.image (S.set side.now) h n number number t ⊎ S.image (S.set side.now) h number number number t)) (T.disk tree.old) (T.disk tree.new) }
-    ensures done { T.tells tree.new → (h : History) (n : ℕ) → n ≤ number → Everywhere (T.disk tree.old) (S.image (S.set side.now) h n n number) → S.reads (S.set side.now) Live h number (T.disk tree.old).tree
-        → OnOk result (Everywhere (T.disk tree.new) (S.image (S.set side.now) h number number number)) }
-    ensures reads { T.tells tree.new → (h : History) → S.reads (S.set side.now) Live h number (T.disk tree.old).tree → S.reads (S.set side.now) Live h number (T.disk tree.new).tree }
+    ensures keeps { T.tells tree.new → WhereApplied (S.image (S.set side.now)) (S.reads (S.set side.now)) number (T.disk tree.old)
+        (λ h n. Keeps (IsCommitting (S.image (S.set side.now)) h n number) (T.disk tree.old) (T.disk tree.new)) }
+    ensures done { T.tells tree.new → WhereApplied (S.image (S.set side.now)) (S.reads (S.set side.now)) number (T.disk tree.old)
+        (λ h n. OnOk result (Everywhere (T.disk tree.new) (S.image (S.set side.now) h number number number))) }
+    ensures reads { T.tells tree.new → (h : History)
+        → S.reads (S.set side.now) Live h number (T.disk tree.old).tree → S.reads (S.set side.now) Live h number (T.disk tree.new).tree }
     ensures undamaged { T.tells tree.new → (p : Path) → result ≢ Err (StoreFault.Damaged p) }
     ensures told { T.tells tree.new → T.tells tree.old }
     ensures faults { (T.disk tree.old).faults ≤ (T.disk tree.new).faults }

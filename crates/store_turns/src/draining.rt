@@ -44,10 +44,12 @@ pub fn drain<T: FileTree, S: Side<T>, D: Device>(
     ensures holds { D.tells dev.new → OnOk result (Holds ring.new (D.state dev.new).disk) }
     ensures exit { T.tells tree.new → D.tells dev.new → (fsid : List ℕ) (h : History)
         → Holding (S.image (S.set side.now)) (S.reads (S.set side.now)) fsid h core.old (T.disk tree.old) ring.old (D.state dev.old).disk
-        → AreDue h core.old.journalled waiting.now → PairsStand (S.image (S.set side.now)) fsid h core.new.journalled (T.disk tree.new).may (D.state dev.new).disk }
+        → AreDue h core.old.journalled waiting.now
+        → PairsStand (S.image (S.set side.now)) fsid h core.new.journalled (T.disk tree.new).may (D.state dev.new).disk }
     ensures done { T.tells tree.new → D.tells dev.new → (fsid : List ℕ) (h : History)
         → Holding (S.image (S.set side.now)) (S.reads (S.set side.now)) fsid h core.old (T.disk tree.old) ring.old (D.state dev.old).disk
-        → AreDue h core.old.journalled waiting.now → OnOk result (Holding (S.image (S.set side.now)) (S.reads (S.set side.now)) fsid h core.new (T.disk tree.new) ring.new (D.state dev.new).disk) }
+        → AreDue h core.old.journalled waiting.now
+        → OnOk result (Holding (S.image (S.set side.now)) (S.reads (S.set side.now)) fsid h core.new (T.disk tree.new) ring.new (D.state dev.new).disk) }
     ensures undamaged { T.tells tree.new → (p : Path) → result ≢ Err (StoreFault.Damaged p) }
     ensures told { T.tells tree.new → T.tells tree.old }
     ensures honest { D.tells dev.new → D.tells dev.old }

@@ -56,9 +56,11 @@ pub fn redo<T: FileTree, S: Side<T>>(
     requires ready { T.tells tree.old → S.ready (S.set side.now) (T.disk tree.old) }
     ensures ready { T.tells tree.new → OnOk result (S.ready (S.set side.now) (T.disk tree.new)) }
     ensures skipped { seq ≤ committed → tree.new ≡ tree.old }
-    ensures keeps { T.tells tree.new → committed < seq → WhereReplayed (S.image (S.set side.now)) (S.reads (S.set side.now)) committed seq payload.now (T.disk tree.old)
+    ensures keeps { T.tells tree.new → committed < seq
+        → WhereReplayed (S.image (S.set side.now)) (S.reads (S.set side.now)) committed seq payload.now (T.disk tree.old)
         (λ h hi. Keeps (S.image (S.set side.now) h committed committed hi) (T.disk tree.old) (T.disk tree.new)) }
-    ensures done { T.tells tree.new → committed < seq → WhereReplayed (S.image (S.set side.now)) (S.reads (S.set side.now)) committed seq payload.now (T.disk tree.old)
+    ensures done { T.tells tree.new → committed < seq
+        → WhereReplayed (S.image (S.set side.now)) (S.reads (S.set side.now)) committed seq payload.now (T.disk tree.old)
         (λ h hi. OnOk result (S.reads (S.set side.now) Replay h seq (T.disk tree.new).tree)) }
     ensures spelled { committed < seq → OnOk result ((ops : List Op) × (decoded payload.now ≡ Ok ops) × S.fits ops) }
     ensures bad { IsErrOf result RedoFault.BadEntry → (ops : List Op) → decoded payload.now ≡ Ok ops → S.fits ops → ⊥ }
