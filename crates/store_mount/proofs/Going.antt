@@ -75,7 +75,7 @@ module _ (image : Images Tree) (reads : Reads) (number : Tree → ℕ → Type 0
         let g = gone before txns spells here in
         let is = told_txn n first i before es txns stored gap (omega (arith, lt, seq_is)) spells told in
         let e : first + i - 1 ≡ stored.seq - 1 = omega (arith, seq_is) in
-        where_replayed h (n + length txns) is.0 (omega (arith, seq_is, is.3)) is.1 (subst (λ (m : ℕ). IsTxn h m is.0) (sym seq_is) is.2)
+        where_replayed h (n + length txns) is.0 (omega (arith, seq_is, is.3)) (omega arith) is.1 (subst (λ (m : ℕ). IsTxn h m is.0) (sym seq_is) is.2)
         (now_from (image h n n (n + length txns)) old (disk x) sound g.keeps)
         (subst (λ (m : ℕ). reads Replay h m (disk x).tree) e (g.reached.so_far (omega (arith, lt, seq_is))))
 

@@ -1,3 +1,4 @@
+mod Fit
 mod Told
 mod Going
 mod Ways

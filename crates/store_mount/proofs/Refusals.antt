@@ -1,5 +1,6 @@
 -- Why a mount gives up, by the fault of the call that it hands on.
-use Rattle.std.proofs.Common.{◌≡◌, ℕ, ◌+◌, ◌-◌, ◌≤◌, List, drop, sym, ◌∙◌, ap, arith, refl, Some, None}
+use Rattle.std.proofs.Common.{◌≡◌, ℕ, ◌+◌, ◌-◌, ◌≤◌, List, drop, sym, ◌∙◌, ap, subst, arith, refl, Some, None}
+use Rattle.fs_model.specs.declared.op.Op.{Op}
 use Rattle.fs_model.specs.Objects.{Objects}
 use Rattle.tree_api.specs.Tree.{Tree}
 use Rattle.ring_frame.specs.Frame.{Entry}
@@ -13,39 +14,40 @@ use Rattle.store_turns.specs.Theory.{Reads, Theory}
 use Rattle.store_turns.proofs.Redone.{told_txn}
 use Rattle.store_mount.specs.declared.fault.MountFault.{MountFault}
 use Rattle.store_mount.specs.declared.fault.MountFault.TheVariants.{NoHeader, WrongFsid, Spent, BadSeq, JournalGap, Damaged, BadEntry, Tree as OfTree, Device, Memory}
-use Rattle.store_mount.specs.Causes.{IsOutside, RefusesNumber, RefusesEntry, RefusesReplay, IsBadEntry, Loads, Explains}
+use Rattle.store_mount.specs.Causes.{AreFit, IsOutside, RefusesNumber, RefusesEntry, RefusesReplay, IsBadEntry, Loads, Explains}
+use Rattle.store_mount.proofs.Fit.{fit_at}
 use Rattle.store_mount.proofs.Told.{Spelled}
 use Rattle.store_mount.proofs.Ways.{some_head, no_gap, spelled}
 
-pub number_explains : (number : Tree → ℕ → Type 0) (t : Tree) (bytes fsid : List ℕ) → Loads bytes fsid → (f : MountFault) → RefusesNumber number t f → Explains number fsid t bytes f
-number_explains number t bytes fsid loads NoHeader h = absurd h
-number_explains number t bytes fsid loads (WrongFsid tree found) h = absurd h
-number_explains number t bytes fsid loads Spent h = absurd h
-number_explains number t bytes fsid loads BadSeq h = (loads, h)
-number_explains number t bytes fsid loads (JournalGap start committed) h = absurd h
-number_explains number t bytes fsid loads (Damaged path) h = h
-number_explains number t bytes fsid loads (BadEntry seq) h = absurd h
-number_explains number t bytes fsid loads OfTree h = tt
-number_explains number t bytes fsid loads Device h = tt
-number_explains number t bytes fsid loads Memory h = tt
+pub number_explains : (fits : List Op → Type 0) (number : Tree → ℕ → Type 0) (t : Tree) (bytes fsid : List ℕ) → Loads bytes fsid → (f : MountFault) → RefusesNumber number t f → Explains fits number fsid t bytes f
+number_explains fits number t bytes fsid loads NoHeader h = absurd h
+number_explains fits number t bytes fsid loads (WrongFsid tree found) h = absurd h
+number_explains fits number t bytes fsid loads Spent h = absurd h
+number_explains fits number t bytes fsid loads BadSeq h = (loads, h)
+number_explains fits number t bytes fsid loads (JournalGap start committed) h = absurd h
+number_explains fits number t bytes fsid loads (Damaged path) h = h
+number_explains fits number t bytes fsid loads (BadEntry seq) h = absurd h
+number_explains fits number t bytes fsid loads OfTree h = tt
+number_explains fits number t bytes fsid loads Device h = tt
+number_explains fits number t bytes fsid loads Memory h = tt
 
 -- an entry of the ring was told and not done again
-pub entry_refuses : (n first i : ℕ) (es : List Entry) (stored : Stored) → told_first (drop i es) ≡ Some stored → stored.seq ≡ first + i
-    → Spelled (n + 1 - first) es i → (f : MountFault) → RefusesEntry n stored f → RefusesReplay n first es f
-entry_refuses n first i es stored told is before NoHeader h = h
-entry_refuses n first i es stored told is before (WrongFsid tree found) h = h
-entry_refuses n first i es stored told is before Spent h = h
-entry_refuses n first i es stored told is before BadSeq h = h
-entry_refuses n first i es stored told is before (JournalGap start committed) h = h
-entry_refuses n first i es stored told is before (Damaged path) h = tt
-entry_refuses n first i es stored told is before (BadEntry seq) h =
+pub entry_refuses : (fits : List Op → Type 0) (n first i : ℕ) (es : List Entry) (stored : Stored) → told_first (drop i es) ≡ Some stored → stored.seq ≡ first + i
+    → Spelled fits (n + 1 - first) es i → (f : MountFault) → RefusesEntry fits n stored f → RefusesReplay fits n first es f
+entry_refuses fits n first i es stored told is before NoHeader h = h
+entry_refuses fits n first i es stored told is before (WrongFsid tree found) h = h
+entry_refuses fits n first i es stored told is before Spent h = h
+entry_refuses fits n first i es stored told is before BadSeq h = h
+entry_refuses fits n first i es stored told is before (JournalGap start committed) h = h
+entry_refuses fits n first i es stored told is before (Damaged path) h = tt
+entry_refuses fits n first i es stored told is before (BadEntry seq) h =
     record { place = i; stored = stored; told = told; number = h.0 ∙ is; above = omega (arith, h.0, h.1); spells_none = h.2; before = before }
-entry_refuses n first i es stored told is before OfTree h = tt
-entry_refuses n first i es stored told is before Device h = tt
-entry_refuses n first i es stored told is before Memory h = tt
+entry_refuses fits n first i es stored told is before OfTree h = tt
+entry_refuses fits n first i es stored told is before Device h = tt
+entry_refuses fits n first i es stored told is before Memory h = tt
 
-module _ (number : Tree → ℕ → Type 0) (t : Tree) (fsid bytes : List ℕ) (loads : Loads bytes fsid) (m : ℕ) (is : number t m) (gap : loads.head.seq ≤ m + 1) where
-  pub replay_explains : (f : MountFault) → ((p : List (List ℕ)) → f ≡ Damaged p → ⊥) → RefusesReplay m loads.head.seq (readable bytes) f → Explains number fsid t bytes f
+module _ (fits : List Op → Type 0) (number : Tree → ℕ → Type 0) (t : Tree) (fsid bytes : List ℕ) (loads : Loads bytes fsid) (m : ℕ) (is : number t m) (gap : loads.head.seq ≤ m + 1) where
+  pub replay_explains : (f : MountFault) → ((p : List (List ℕ)) → f ≡ Damaged p → ⊥) → RefusesReplay fits m loads.head.seq (readable bytes) f → Explains fits number fsid t bytes f
   replay_explains NoHeader whole h = absurd h
   replay_explains (WrongFsid tree found) whole h = absurd h
   replay_explains Spent whole h = absurd h
@@ -57,19 +59,19 @@ module _ (number : Tree → ℕ → Type 0) (t : Tree) (fsid bytes : List ℕ) (
   replay_explains Device whole h = tt
   replay_explains Memory whole h = tt
 
--- what stands refuses no mount
-module _ (image : Images Tree) (reads : Reads) (number : Tree → ℕ → Type 0) (laid : Tree → Type 0) (theory : Theory image reads number laid)
-    (fsid bytes : List ℕ) (t : Tree) (o : Objects) (n last : ℕ) (s : StandsAt image fsid t bytes o n last) (unspent : IsUnspentImage bytes) where
+-- what stands refuses no mount, where its transactions can be done
+module _ (fits : List Op → Type 0) (image : Images Tree) (reads : Reads) (number : Tree → ℕ → Type 0) (laid : Tree → Type 0) (theory : Theory image reads number laid)
+    (fsid bytes : List ℕ) (t : Tree) (o : Objects) (n last : ℕ) (s : StandsAt image fsid t bytes o n last) (all : AreFit fits s.txns) (unspent : IsUnspentImage bytes) where
   some_none : (a : Head) → Some a ≡ None → ⊥
   some_none a e = cc
 
-  stored_spells : (head : Head) → head_of bytes ≡ Some head → (m : ℕ) → number t m → (seq : ℕ) → IsBadEntry m head.seq (readable bytes) seq → ⊥
+  stored_spells : (head : Head) → head_of bytes ≡ Some head → (m : ℕ) → number t m → (seq : ℕ) → IsBadEntry fits m head.seq (readable bytes) seq → ⊥
   stored_spells head header m is seq bad =
       let told = told_txn m head.seq bad.place s.before (readable bytes) s.txns bad.stored (no_gap image reads number laid theory fsid bytes head header m t is o n last s)
       (omega (arith, bad.number, bad.above)) (spelled image reads number laid theory fsid bytes head header m t is o n last s) bad.told in
-      bad.spells_none told.0 told.1
+      bad.spells_none told.0 told.1 (subst fits told.2 (fit_at fits s.txns _ (omega (arith, told.3, bad.number, bad.above)) all))
 
-  pub outside : (f : MountFault) → Explains number fsid t bytes f → IsOutside f
+  pub outside : (f : MountFault) → Explains fits number fsid t bytes f → IsOutside f
   outside NoHeader h = some_none s.head (sym s.header ∙ h)
   outside (WrongFsid tree found) h =
       h.1.3 (sym h.1.2 ∙ ap (λ (x : Head). x.fsid) (some_head h.1.0 s.head (sym h.1.1 ∙ s.header)) ∙ s.fsid_is)

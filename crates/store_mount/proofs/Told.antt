@@ -12,6 +12,8 @@ use Rattle.ring_images.specs.Held.{readable}
 use Rattle.ring_journal.specs.declared.blob.Stored.{Stored}
 use Rattle.ring_journal.specs.State.{State, Ended, told_first}
 use Rattle.store_history.specs.Journal.{txn_of, Spells}
+use Rattle.store_mount.specs.Causes.{AreFit}
+use Rattle.store_mount.proofs.Fit.{fit_more}
 use Rattle.store_history.proofs.Entries.{spells_more, spells_as}
 
 some_stored : (a b : Stored) → Some a ≡ Some b → a ≡ b
@@ -31,23 +33,24 @@ ended_length s d ended = ap length ended.1.list ∙ length-append ended.0 [] ∙
 no_entry : Entry
 no_entry = record { seq = 0; epoch = 0; payload = [] }
 
--- what was told of these entries spells transactions, from place k on
-abbrev pub Spelled : ℕ → List Entry → ℕ → Type 0
-Spelled k es i = (txns : List (List Op)) × Spells (drop k (take i es)) txns
+-- what was told of these entries spells transactions that can be done, from place k on
+abbrev pub Spelled : (List Op → Type 0) → ℕ → List Entry → ℕ → Type 0
+Spelled fits k es i = (txns : List (List Op)) × Spells (drop k (take i es)) txns × AreFit fits txns
 
-pub spelled_none : (k : ℕ) (es : List Entry) (i : ℕ) → i ≡ 0 → Spelled k es i
-spelled_none k es i z = ([], ap (λ (j : ℕ). map txn_of (drop k (take j es))) z ∙ ap (map txn_of) (drop-nil k))
+pub spelled_none : (fits : List Op → Type 0) (k : ℕ) (es : List Entry) (i : ℕ) → i ≡ 0 → Spelled fits k es i
+spelled_none fits k es i z = ([], ap (λ (j : ℕ). map txn_of (drop k (take j es))) z ∙ ap (map txn_of) (drop-nil k), tt)
 
-pub spelled_all : (k : ℕ) (es : List Entry) (i : ℕ) → length es ≡ i → Spelled k es i → (txns : List (List Op)) × Spells (drop k es) txns
-spelled_all k es i l so_far = (so_far.0, sym (ap (λ (xs : List Entry). map txn_of (drop k xs)) (take_all i es (omega (arith, l)))) ∙ so_far.1)
+pub spelled_all : (fits : List Op → Type 0) (k : ℕ) (es : List Entry) (i : ℕ) → length es ≡ i → Spelled fits k es i → (txns : List (List Op)) × Spells (drop k es) txns × AreFit fits txns
+spelled_all fits k es i l so_far = (so_far.0, sym (ap (λ (xs : List Entry). map txn_of (drop k xs)) (take_all i es (omega (arith, l)))) ∙ so_far.1, so_far.2)
 
-pub spelled_more : (k : ℕ) (es : List Entry) (i : ℕ) (x : Stored) → told_first (drop i es) ≡ Some x → (k ≤ i → (ops : List Op) × (decoded x.payload ≡ Ok ops)) → Spelled k es i → Spelled k es (i + 1)
-spelled_more k es i x told spells so_far =
+pub spelled_more : (fits : List Op → Type 0) (k : ℕ) (es : List Entry) (i : ℕ) (x : Stored) → told_first (drop i es) ≡ Some x
+    → (k ≤ i → (ops : List Op) × (decoded x.payload ≡ Ok ops) × fits ops) → Spelled fits k es i → Spelled fits k es (i + 1)
+spelled_more fits k es i x told spells so_far =
     let here : i < length es = omega (arith, told_some (drop i es) x told, length-drop i es) in
     let e : Entry = get_or es i no_entry in
     let one : told_first (e ∷ drop (i + 1) es) ≡ Some x = sym (ap told_first (drop_more es i no_entry here)) ∙ told in
     ⊎_elim
-    (λ (lt : i < k). ([], ap (map txn_of) (drop_of_length-le (take (i + 1) es) {i = k} (omega (arith, lt, length-take-le (i + 1) es (omega (arith, here)))))))
+    (λ (lt : i < k). ([], ap (map txn_of) (drop_of_length-le (take (i + 1) es) {i = k} (omega (arith, lt, length-take-le (i + 1) es (omega (arith, here))))), tt))
     (λ (le : k ≤ i).
     let ops = spells le in
     let longer : drop k (take (i + 1) es) ≡ drop k (take i es) ++ e ∷ [] =
@@ -55,5 +58,6 @@ spelled_more k es i x told spells so_far =
       so_far.0 ++ ops.0 ∷ [],
       spells_as (drop k (take i es) ++ e ∷ []) (drop k (take (i + 1) es)) (so_far.0 ++ ops.0 ∷ []) (sym longer)
           (spells_more (drop k (take i es)) so_far.0 e ops.0 so_far.1 (told_payload e (drop (i + 1) es) x one ∙ ops.1)),
+      fit_more fits so_far.0 ops.0 so_far.2 ops.2,
     ))
     (cases_lt i k)

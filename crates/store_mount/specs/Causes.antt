@@ -1,5 +1,5 @@
 -- Why a mount gives up: what is so of the tree and of the device's bytes as they read.
-use Rattle.std.specs.Prelude.{◌≡◌, ℕ, ◌+◌, ◌-◌, ◌≤◌, ◌<◌, List, take, drop, Some, None, Ok}
+use Rattle.std.specs.Prelude.{◌≡◌, ℕ, ◌+◌, ◌-◌, ◌≤◌, ◌<◌, List, [], ◌∷◌, take, drop, Some, None, Ok}
 use Rattle.fs_model.specs.declared.op.Op.{Op}
 use Rattle.txn_codec.specs.Reading.{decoded}
 use Rattle.tree_api.specs.Tree.{Tree}
@@ -11,6 +11,11 @@ use Rattle.ring_journal.specs.State.{IsOtherRing, IsSpent, IsUnspent, told_first
 use Rattle.store_history.specs.Journal.{Spells, above}
 use Rattle.store_mount.specs.declared.fault.MountFault.{MountFault}
 use Rattle.store_mount.specs.declared.fault.MountFault.TheVariants.{NoHeader, WrongFsid, Spent, BadSeq, JournalGap, Damaged, BadEntry, Tree as OfTree, Device, Memory}
+
+-- each of these transactions can be done
+abbrev pub AreFit : (List Op → Type 0) → List (List Op) → Type 0
+AreFit fits [] = Unit {0}
+AreFit fits (ops ∷ txns) = fits ops × AreFit fits txns
 
 -- it comes before any entry is done again
 abbrev pub IsFoundFirst : MountFault → Type 0
@@ -53,23 +58,23 @@ pub record IsGap (number : Tree → ℕ → Type 0) (fsid : List ℕ) (t : Tree)
   pub gap : committed + 1 < start
 
 -- Of these entries, the first of which has the number `first`, the one with the number seq is above n and spells no
--- transaction, and those before it that are above n do.
-pub record IsBadEntry (n first : ℕ) (es : List Entry) (seq : ℕ) : Type 0 where
+-- transaction that can be done, and those before it that are above n do.
+pub record IsBadEntry (fits : List Op → Type 0) (n first : ℕ) (es : List Entry) (seq : ℕ) : Type 0 where
   pub place : ℕ
   pub stored : Stored
   pub told : told_first (drop place es) ≡ Some stored
   pub number : seq ≡ first + place
   pub above : n < seq
-  pub spells_none : (ops : List Op) → decoded stored.payload ≡ Ok ops → ⊥
-  pub before : (txns : List (List Op)) × Spells (drop (n + 1 - first) (take place es)) txns
+  pub spells_none : (ops : List Op) → decoded stored.payload ≡ Ok ops → fits ops → ⊥
+  pub before : (txns : List (List Op)) × Spells (drop (n + 1 - first) (take place es)) txns × AreFit fits txns
 
--- of such a ring's entries above the committed number this is the first that spells none
-pub record HasBadEntry (number : Tree → ℕ → Type 0) (fsid : List ℕ) (t : Tree) (bytes : List ℕ) (seq : ℕ) : Type 0 where
+-- of such a ring's entries above the committed number this is the first that spells none that can be done
+pub record HasBadEntry (fits : List Op → Type 0) (number : Tree → ℕ → Type 0) (fsid : List ℕ) (t : Tree) (bytes : List ℕ) (seq : ℕ) : Type 0 where
   pub loads : Loads bytes fsid
   pub committed : ℕ
   pub number_is : number t committed
   pub no_gap : loads.head.seq ≤ committed + 1
-  pub bad : IsBadEntry committed loads.head.seq (readable bytes) seq
+  pub bad : IsBadEntry fits committed loads.head.seq (readable bytes) seq
 
 -- why the bytes have no ring that may be loaded for the fsid
 abbrev pub RefusesRing : List ℕ → List ℕ → MountFault → Type 0
@@ -98,48 +103,49 @@ RefusesNumber number t (Damaged path) = ⊥
 RefusesNumber number t (BadEntry seq) = ⊥
 
 -- why an entry was not done again
-abbrev pub RefusesEntry : ℕ → Stored → MountFault → Type 0
-RefusesEntry n stored (BadEntry seq) = (seq ≡ stored.seq) × (n < stored.seq) × ((ops : List Op) → decoded stored.payload ≡ Ok ops → ⊥)
-RefusesEntry n stored (Damaged path) = Unit {0}
-RefusesEntry n stored OfTree = Unit {0}
-RefusesEntry n stored Memory = Unit {0}
-RefusesEntry n stored Device = ⊥
-RefusesEntry n stored NoHeader = ⊥
-RefusesEntry n stored (WrongFsid tree ring) = ⊥
-RefusesEntry n stored Spent = ⊥
-RefusesEntry n stored BadSeq = ⊥
-RefusesEntry n stored (JournalGap start committed) = ⊥
+abbrev pub RefusesEntry : (List Op → Type 0) → ℕ → Stored → MountFault → Type 0
+RefusesEntry fits n stored (BadEntry seq) = (seq ≡ stored.seq) × (n < stored.seq) × ((ops : List Op) → decoded stored.payload ≡ Ok ops → fits ops → ⊥)
+RefusesEntry fits n stored (Damaged path) = Unit {0}
+RefusesEntry fits n stored OfTree = Unit {0}
+RefusesEntry fits n stored Memory = Unit {0}
+RefusesEntry fits n stored Device = ⊥
+RefusesEntry fits n stored NoHeader = ⊥
+RefusesEntry fits n stored (WrongFsid tree ring) = ⊥
+RefusesEntry fits n stored Spent = ⊥
+RefusesEntry fits n stored BadSeq = ⊥
+RefusesEntry fits n stored (JournalGap start committed) = ⊥
 
 -- why these entries, the first of which has the number `first`, are not all done again above n
-abbrev pub RefusesReplay : ℕ → ℕ → List Entry → MountFault → Type 0
-RefusesReplay n first es (BadEntry seq) = IsBadEntry n first es seq
-RefusesReplay n first es (Damaged path) = Unit {0}
-RefusesReplay n first es OfTree = Unit {0}
-RefusesReplay n first es Memory = Unit {0}
-RefusesReplay n first es Device = Unit {0}
-RefusesReplay n first es NoHeader = ⊥
-RefusesReplay n first es (WrongFsid tree ring) = ⊥
-RefusesReplay n first es Spent = ⊥
-RefusesReplay n first es BadSeq = ⊥
-RefusesReplay n first es (JournalGap start committed) = ⊥
+abbrev pub RefusesReplay : (List Op → Type 0) → ℕ → ℕ → List Entry → MountFault → Type 0
+RefusesReplay fits n first es (BadEntry seq) = IsBadEntry fits n first es seq
+RefusesReplay fits n first es (Damaged path) = Unit {0}
+RefusesReplay fits n first es OfTree = Unit {0}
+RefusesReplay fits n first es Memory = Unit {0}
+RefusesReplay fits n first es Device = Unit {0}
+RefusesReplay fits n first es NoHeader = ⊥
+RefusesReplay fits n first es (WrongFsid tree ring) = ⊥
+RefusesReplay fits n first es Spent = ⊥
+RefusesReplay fits n first es BadSeq = ⊥
+RefusesReplay fits n first es (JournalGap start committed) = ⊥
 
 -- why the two can't be mounted: just one of these is so, or they can
-abbrev pub Explains : (Tree → ℕ → Type 0) → List ℕ → Tree → List ℕ → MountFault → Type 0
-Explains number fsid t bytes NoHeader = head_of bytes ≡ None
-Explains number fsid t bytes (WrongFsid tree ring) = (tree ≡ fsid) × IsOtherRing bytes fsid ring
-Explains number fsid t bytes Spent = IsSpent bytes fsid
-Explains number fsid t bytes BadSeq = Loads bytes fsid × ((n : ℕ) → number t n → ⊥)
-Explains number fsid t bytes (JournalGap start committed) = IsGap number fsid t bytes start committed
-Explains number fsid t bytes (BadEntry seq) = HasBadEntry number fsid t bytes seq
-Explains number fsid t bytes (Damaged path) = ⊥
-Explains number fsid t bytes OfTree = Unit {0}
-Explains number fsid t bytes Device = Unit {0}
-Explains number fsid t bytes Memory = Unit {0}
+abbrev pub Explains : (List Op → Type 0) → (Tree → ℕ → Type 0) → List ℕ → Tree → List ℕ → MountFault → Type 0
+Explains fits number fsid t bytes NoHeader = head_of bytes ≡ None
+Explains fits number fsid t bytes (WrongFsid tree ring) = (tree ≡ fsid) × IsOtherRing bytes fsid ring
+Explains fits number fsid t bytes Spent = IsSpent bytes fsid
+Explains fits number fsid t bytes BadSeq = Loads bytes fsid × ((n : ℕ) → number t n → ⊥)
+Explains fits number fsid t bytes (JournalGap start committed) = IsGap number fsid t bytes start committed
+Explains fits number fsid t bytes (BadEntry seq) = HasBadEntry fits number fsid t bytes seq
+Explains fits number fsid t bytes (Damaged path) = ⊥
+Explains fits number fsid t bytes OfTree = Unit {0}
+Explains fits number fsid t bytes Device = Unit {0}
+Explains fits number fsid t bytes Memory = Unit {0}
 
 -- they can, with this committed number
-pub record CanMount (number : Tree → ℕ → Type 0) (fsid : List ℕ) (t : Tree) (bytes : List ℕ) (committed : ℕ) : Type 0 where
+pub record CanMount (fits : List Op → Type 0) (number : Tree → ℕ → Type 0) (fsid : List ℕ) (t : Tree) (bytes : List ℕ) (committed : ℕ) : Type 0 where
   pub loads : Loads bytes fsid
   pub number_is : number t committed
   pub no_gap : loads.head.seq ≤ committed + 1
   pub txns : List (List Op)
   pub spelled : Spells (above committed loads.head.seq (readable bytes)) txns
+  pub fit : AreFit fits txns

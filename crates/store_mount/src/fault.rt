@@ -36,7 +36,7 @@ pub enum MountFault {
         /// The path.
         path: TreePath,
     },
-    /// The entry above the committed number whose payload is no transaction.
+    /// The entry above the committed number whose payload is no transaction, or one that can't be done.
     BadEntry {
         /// Its number.
         seq: u64,

@@ -15,6 +15,7 @@ use dev_api::Device;
 use ring_journal::Ring;
 use std::alloc::Global;
 use store_turns::Side;
+use tree_api::FileTree;
 
 /// What a mount finds: the ring, of which no entry was told, and the committed number.
 #[derive(Drop)]
@@ -51,19 +52,23 @@ fn load<D: Device>(dev: &mut D, fsid: &[u8; 16]) -> Result<Ring, MountFault>
 }
 
 // The committed number of the tree.
-fn committed_number<S: Side>(alloc: Global, side: &mut S) -> Result<u64, MountFault>
-    ensures ready { S.tells side.new → S.ready (S.disk side.old) → S.ready (S.disk side.new) }
-    ensures still { S.tells side.new → Still (S.disk side.old) (S.disk side.new) }
-    ensures number { S.tells side.new → IfOk result (λ n. S.number (S.disk side.old).tree n) }
+fn committed_number<T: FileTree, S: Side<T>>(
+    alloc: Global,
+    side: &S,
+    tree: &mut T,
+) -> Result<u64, MountFault>
+    ensures ready { T.tells tree.new → S.ready (S.set side.now) (T.disk tree.old) → S.ready (S.set side.now) (T.disk tree.new) }
+    ensures still { T.tells tree.new → Still (T.disk tree.old) (T.disk tree.new) }
+    ensures number { T.tells tree.new → IfOk result (λ n. S.number (T.disk tree.old).tree n) }
     ensures small { IfOk result (λ n. n < 2 ^ 63) }
-    ensures refused { S.tells side.new → IfErr result (RefusesNumber S.number (S.disk side.old).tree) }
-    ensures told { S.tells side.new → S.tells side.old }
-    ensures faults { (S.disk side.old).faults ≤ (S.disk side.new).faults }
-    ensures undamaged { S.tells side.new → (p : Path) → result ≢ Err (MountFault.Damaged p) }
+    ensures refused { T.tells tree.new → IfErr result (RefusesNumber S.number (T.disk tree.old).tree) }
+    ensures told { T.tells tree.new → T.tells tree.old }
+    ensures faults { (T.disk tree.old).faults ≤ (T.disk tree.new).faults }
+    ensures undamaged { T.tells tree.new → (p : Path) → result ≢ Err (MountFault.Damaged p) }
     ensures not_the_device { IsErrOf result MountFault.Device → ⊥ }
-    ensures cause { IsErrOf result MountFault.Tree → Counted (S.disk side.old).faults (S.disk side.new).faults }
+    ensures cause { IsErrOf result MountFault.Tree → Counted (T.disk tree.old).faults (T.disk tree.new).faults }
 {
-    match side.read_seq(alloc)? {
+    match side.read_seq(alloc, tree)? {
         Some(number) => Ok(number),
         None => Err(MountFault::BadSeq),
     }
@@ -71,17 +76,18 @@ fn committed_number<S: Side>(alloc: Global, side: &mut S) -> Result<u64, MountFa
 
 /// Makes both sides stable, loads the ring and reads the committed number. It changes nothing that reads, and brings no
 /// image on either side.
-pub fn find<S: Side, D: Device>(
+pub fn find<T: FileTree, S: Side<T>, D: Device>(
     alloc: Global,
-    side: &mut S,
+    side: &S,
+    tree: &mut T,
     dev: &mut D,
     fsid: &[u8; 16],
 ) -> Result<Found, MountFault>
-    requires laid { S.tells side.old → S.laid (S.disk side.old).tree }
-    ensures stays { S.tells side.new → Stays (S.disk side.old) (S.disk side.new) }
-    ensures settled { S.tells side.new → OnOk result (Everywhere (S.disk side.new) (λ t. t ≡ (S.disk side.old).tree)) }
-    ensures ready { S.tells side.new → OnOk result (S.ready (S.disk side.new)) }
-    ensures number { S.tells side.new → IfOk result (λ found. S.number (S.disk side.old).tree found.committed) }
+    requires laid { T.tells tree.old → S.laid (S.set side.now) (T.disk tree.old).tree }
+    ensures stays { T.tells tree.new → Stays (T.disk tree.old) (T.disk tree.new) }
+    ensures settled { T.tells tree.new → OnOk result (Everywhere (T.disk tree.new) (λ t. t ≡ (T.disk tree.old).tree)) }
+    ensures ready { T.tells tree.new → OnOk result (S.ready (S.set side.now) (T.disk tree.new)) }
+    ensures number { T.tells tree.new → IfOk result (λ found. S.number (T.disk tree.old).tree found.committed) }
     ensures small { IfOk result (λ found. found.committed < 2 ^ 63) }
     ensures head { D.tells dev.new → IfOk result (λ found. head_of (D.state dev.old).disk.reads ≡ Some found.ring.head) }
     ensures loaded { D.tells dev.new → IfOk result (λ found. Loaded found.ring (D.state dev.new).disk) }
@@ -91,24 +97,24 @@ pub fn find<S: Side, D: Device>(
     ensures unspent { IfOk result (λ found. IsUnspent found.ring.head) }
     ensures size { IfOk result (λ found. found.ring.head.size ≡ (D.state dev.new).size) }
     ensures no_gap { IfOk result (λ found. found.ring.head.seq ≤ found.committed + 1) }
-    ensures refused { S.tells side.new → D.tells dev.new → IfErr result (Explains S.number fsid.now (S.disk side.old).tree (D.state dev.old).disk.reads) }
+    ensures refused { T.tells tree.new → D.tells dev.new → IfErr result (Explains S.fits S.number fsid.now (T.disk tree.old).tree (D.state dev.old).disk.reads) }
     ensures reads { D.tells dev.new → IfErr result (λ fault. IsFoundFirst fault → (D.state dev.new).disk.reads ≡ (D.state dev.old).disk.reads) }
     ensures crash { D.tells dev.new → ReadsSound (D.state dev.old).disk → KeepsSince (Within (D.state dev.old).disk) (D.state dev.old) (D.state dev.new) }
-    ensures undamaged { S.tells side.new → (p : Path) → result ≢ Err (MountFault.Damaged p) }
-    ensures told { S.tells side.new → S.tells side.old }
+    ensures undamaged { T.tells tree.new → (p : Path) → result ≢ Err (MountFault.Damaged p) }
+    ensures told { T.tells tree.new → T.tells tree.old }
     ensures honest { D.tells dev.new → D.tells dev.old }
     ensures extent { (D.state dev.new).size ≡ (D.state dev.old).size }
-    ensures tree { IsErrOf result MountFault.Tree → Counted (S.disk side.old).faults (S.disk side.new).faults }
+    ensures tree { IsErrOf result MountFault.Tree → Counted (T.disk tree.old).faults (T.disk tree.new).faults }
     ensures device { IsErrOf result MountFault.Device → Counted (D.state dev.old).faults (D.state dev.new).faults }
-    ensures tree_faults { (S.disk side.old).faults ≤ (S.disk side.new).faults }
+    ensures tree_faults { (T.disk tree.old).faults ≤ (T.disk tree.new).faults }
     ensures device_faults { (D.state dev.old).faults ≤ (D.state dev.new).faults }
 {
-    match side.sync_all() {
+    match side.sync_all(tree) {
         Ok(()) => {}
         Err(_) => return Err(MountFault::Tree),
     }
     let ring = load(dev, fsid)?;
-    let committed = match committed_number(alloc, side) {
+    let committed = match committed_number(alloc, side, tree) {
         Ok(committed) => committed,
         Err(fault) => return Err(fault),
     };

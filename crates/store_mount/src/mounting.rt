@@ -13,7 +13,7 @@ ghost use Rattle.store_history.specs.Journal.{EachImage, IsAbove, RingSide};
 ghost use Rattle.store_history.specs.Pair.{StandsAt};
 ghost use Rattle.store_turns.specs.State.{Fits};
 ghost use Rattle.store_turns.specs.declared.numbers.How.TheVariants.{Live};
-ghost use Rattle.store_mount.specs.Causes.{CanMount, Explains, IsFoundFirst, IsOutside, RefusesReplay};
+ghost use Rattle.store_mount.specs.Causes.{AreFit, CanMount, Explains, IsFoundFirst, IsOutside, RefusesReplay};
 ghost use Rattle.store_mount.specs.Mounts.{AllStand, MountedAs, PairsCarry, StandsNow, WasOrServes, WasOrStands};
 ghost use Rattle.store_mount.specs.Replays.{SpellsAbove, WhereSpelled};
 
@@ -25,6 +25,7 @@ use ring_journal::{Ring, sound_law};
 use std::alloc::Global;
 use store_journal::reopen;
 use store_turns::{Numbers, Side};
+use tree_api::FileTree;
 
 /// What a mount gives.
 #[derive(Drop)]
@@ -36,9 +37,10 @@ pub struct Mounted {
 }
 
 // Does the entries above the committed number again, and begins a new epoch of the ring behind that number.
-fn go_on<S: Side, D: Device>(
+fn go_on<T: FileTree, S: Side<T>, D: Device>(
     alloc: Global,
-    side: &mut S,
+    side: &S,
+    tree: &mut T,
     ring: &mut Ring,
     dev: &mut D,
     committed: u64,
@@ -49,34 +51,36 @@ fn go_on<S: Side, D: Device>(
     requires unspent { IsUnspent ring.old.head }
     requires no_gap { ring.old.head.seq ≤ committed + 1 }
     requires small { committed < 2 ^ 63 }
-    requires ready { S.tells side.old → S.ready (S.disk side.old) }
-    ensures keeps { S.tells side.new → D.tells dev.new → WhereSpelled S.image committed ring.old.head.seq (synced (D.state dev.old).disk) (S.disk side.old)
-        (λ h. Keeps (S.image h committed committed (end_of h)) (S.disk side.old) (S.disk side.new)) }
-    ensures done { S.tells side.new → D.tells dev.new → WhereSpelled S.image committed ring.old.head.seq (synced (D.state dev.old).disk) (S.disk side.old)
-        (λ h. OnOk result (S.reads Live h (end_of h) (S.disk side.new).tree)) }
+    requires ready { T.tells tree.old → S.ready (S.set side.now) (T.disk tree.old) }
+    ensures keeps { T.tells tree.new → D.tells dev.new
+        → WhereSpelled (S.image (S.set side.now)) committed ring.old.head.seq (synced (D.state dev.old).disk) (T.disk tree.old)
+        (λ h. Keeps (S.image (S.set side.now) h committed committed (end_of h)) (T.disk tree.old) (T.disk tree.new)) }
+    ensures done { T.tells tree.new → D.tells dev.new
+        → WhereSpelled (S.image (S.set side.now)) committed ring.old.head.seq (synced (D.state dev.old).disk) (T.disk tree.old)
+        (λ h. OnOk result (S.reads (S.set side.now) Live h (end_of h) (T.disk tree.new).tree)) }
     ensures crash { D.tells dev.new → (txns : List (List Op)) → SpellsAbove committed ring.old (D.state dev.old).disk txns
         → KeepsSince (EachSound (IsAbove ring.old.head.fsid committed txns)) (D.state dev.old) (D.state dev.new) }
     ensures ring { D.tells dev.new → (before : Objects) (txns : List (List Op)) → SpellsAbove committed ring.old (D.state dev.old).disk txns
         → OnOk result (RingSide ring.old.head.fsid (replay_of committed before txns) committed (committed + length txns) (committed + length txns) ring.new (D.state dev.new).disk) }
     ensures last { D.tells dev.new → (txns : List (List Op)) → SpellsAbove committed ring.old (D.state dev.old).disk txns
         → OnOk result (ring.new.head.seq + ring.new.count ≡ committed + length txns + 1) }
-    ensures spelled { D.tells dev.new → OnOk result ((txns : List (List Op)) × SpellsAbove committed ring.old (D.state dev.old).disk txns) }
+    ensures spelled { D.tells dev.new → OnOk result ((txns : List (List Op)) × SpellsAbove committed ring.old (D.state dev.old).disk txns × AreFit S.fits txns) }
     ensures counts { OnOk result ((last : ℕ) → last + 1 ≡ ring.new.head.seq + ring.new.count → Fits (record { journalled = last; committed = committed }) ring.new) }
     ensures holds { D.tells dev.new → OnOk result (Holds ring.new (D.state dev.new).disk) }
     ensures size { OnOk result (ring.new.head.size ≡ ring.old.head.size) }
-    ensures ready { S.tells side.new → OnOk result (S.ready (S.disk side.new)) }
-    ensures refused { D.tells dev.new → IfErr result (RefusesReplay committed ring.old.head.seq (synced (D.state dev.old).disk)) }
+    ensures ready { T.tells tree.new → OnOk result (S.ready (S.set side.now) (T.disk tree.new)) }
+    ensures refused { D.tells dev.new → IfErr result (RefusesReplay S.fits committed ring.old.head.seq (synced (D.state dev.old).disk)) }
     ensures late { IfErr result (λ fault. IsFoundFirst fault → ⊥) }
-    ensures undamaged { S.tells side.new → (p : Path) → result ≢ Err (MountFault.Damaged p) }
-    ensures told { S.tells side.new → S.tells side.old }
+    ensures undamaged { T.tells tree.new → (p : Path) → result ≢ Err (MountFault.Damaged p) }
+    ensures told { T.tells tree.new → T.tells tree.old }
     ensures honest { D.tells dev.new → D.tells dev.old }
     ensures extent { (D.state dev.new).size ≡ (D.state dev.old).size }
-    ensures tree { IsErrOf result MountFault.Tree → Counted (S.disk side.old).faults (S.disk side.new).faults }
+    ensures tree { IsErrOf result MountFault.Tree → Counted (T.disk tree.old).faults (T.disk tree.new).faults }
     ensures device { IsErrOf result MountFault.Device → Counted (D.state dev.old).faults (D.state dev.new).faults }
-    ensures tree_faults { (S.disk side.old).faults ≤ (S.disk side.new).faults }
+    ensures tree_faults { (T.disk tree.old).faults ≤ (T.disk tree.new).faults }
     ensures device_faults { (D.state dev.old).faults ≤ (D.state dev.new).faults }
 {
-    match replay(alloc, side, ring, dev, committed) {
+    match replay(alloc, side, tree, ring, dev, committed) {
         Ok(()) => {}
         Err(fault) => return Err(fault),
     }
@@ -89,56 +93,61 @@ fn go_on<S: Side, D: Device>(
 ///
 /// Where what reads at entry stands for some objects, the mounted store holds these. At every exit each pair of what a
 /// crash may leave stands for whatever some pair of before stood for.
-pub fn mount<S: Side, D: Device>(
+pub fn mount<T: FileTree, S: Side<T>, D: Device>(
     alloc: Global,
-    side: &mut S,
+    side: &S,
+    tree: &mut T,
     dev: &mut D,
     fsid: &[u8; 16],
 ) -> Result<Mounted, MountFault>
-    requires laid { S.tells side.old → S.laid (S.disk side.old).tree }
-    ensures done { S.tells side.new → D.tells dev.new → (o : Objects) (n last : ℕ) → StandsNow S.image fsid.now (S.disk side.old) (D.state dev.old).disk o n last
-        → IfOk result (λ mounted. MountedAs S.image S.reads fsid.now o n last mounted (S.disk side.new) (D.state dev.new).disk) }
-    ensures exit { S.tells side.new → D.tells dev.new → ReadsSound (D.state dev.old).disk
-        → PairsCarry S.image fsid.now (S.disk side.old).may (D.state dev.old).disk (S.disk side.new).may (D.state dev.new).disk }
-    ensures trees { S.tells side.new → D.tells dev.new → (o : Objects) (n last : ℕ) → StandsNow S.image fsid.now (S.disk side.old) (D.state dev.old).disk o n last
-        → Keeps (WasOrStands S.image fsid.now (S.disk side.old).may (D.state dev.old).disk.reads o n last) (S.disk side.old) (S.disk side.new) }
-    ensures journals { S.tells side.new → D.tells dev.new → ReadsSound (D.state dev.old).disk → (o : Objects) (n last : ℕ)
-        → StandsNow S.image fsid.now (S.disk side.old) (D.state dev.old).disk o n last
-        → KeepsSince (EachImage (WasOrServes S.image fsid.now (D.state dev.old).disk o n last)) (D.state dev.old) (D.state dev.new) }
-    ensures moments { S.tells side.new → D.tells dev.new → IsSettled (D.state dev.old).disk → IsUnspentImage (D.state dev.old).disk.reads
-        → (o : Objects) (n last : ℕ) → AllStand S.image fsid.now o n last (S.disk side.old).may (D.state dev.old).disk
-        → Keeps (λ t. KeepsSince (EachImage (λ c. StandsAt S.image fsid.now t c o n last)) (D.state dev.old) (D.state dev.new)) (S.disk side.old) (S.disk side.new) }
+    requires laid { T.tells tree.old → S.laid (S.set side.now) (T.disk tree.old).tree }
+    ensures done { T.tells tree.new → D.tells dev.new → (o : Objects) (n last : ℕ)
+        → StandsNow (S.image (S.set side.now)) fsid.now (T.disk tree.old) (D.state dev.old).disk o n last
+        → IfOk result (λ mounted. MountedAs (S.image (S.set side.now)) (S.reads (S.set side.now)) fsid.now o n last mounted (T.disk tree.new) (D.state dev.new).disk) }
+    ensures exit { T.tells tree.new → D.tells dev.new → ReadsSound (D.state dev.old).disk
+        → PairsCarry (S.image (S.set side.now)) fsid.now (T.disk tree.old).may (D.state dev.old).disk (T.disk tree.new).may (D.state dev.new).disk }
+    ensures trees { T.tells tree.new → D.tells dev.new → (o : Objects) (n last : ℕ)
+        → StandsNow (S.image (S.set side.now)) fsid.now (T.disk tree.old) (D.state dev.old).disk o n last
+        → Keeps (WasOrStands (S.image (S.set side.now)) fsid.now (T.disk tree.old).may (D.state dev.old).disk.reads o n last) (T.disk tree.old) (T.disk tree.new) }
+    ensures journals { T.tells tree.new → D.tells dev.new → ReadsSound (D.state dev.old).disk → (o : Objects) (n last : ℕ)
+        → StandsNow (S.image (S.set side.now)) fsid.now (T.disk tree.old) (D.state dev.old).disk o n last
+        → KeepsSince (EachImage (WasOrServes (S.image (S.set side.now)) fsid.now (D.state dev.old).disk o n last)) (D.state dev.old) (D.state dev.new) }
+    ensures moments { T.tells tree.new → D.tells dev.new → IsSettled (D.state dev.old).disk → IsUnspentImage (D.state dev.old).disk.reads
+        → (o : Objects) (n last : ℕ) → AllStand (S.image (S.set side.now)) fsid.now o n last (T.disk tree.old).may (D.state dev.old).disk
+        → Keeps (λ t. KeepsSince (EachImage (λ c. StandsAt (S.image (S.set side.now)) fsid.now t c o n last)) (D.state dev.old) (D.state dev.new))
+        (T.disk tree.old) (T.disk tree.new) }
     ensures counts { IfOk result (λ mounted. Fits mounted.numbers mounted.ring) }
-    ensures ready { S.tells side.new → OnOk result (S.ready (S.disk side.new)) }
+    ensures ready { T.tells tree.new → OnOk result (S.ready (S.set side.now) (T.disk tree.new)) }
     ensures holds { D.tells dev.new → IfOk result (λ mounted. Holds mounted.ring (D.state dev.new).disk) }
     ensures size { IfOk result (λ mounted. mounted.ring.head.size ≡ (D.state dev.new).size) }
-    ensures can { S.tells side.new → D.tells dev.new
-        → IfOk result (λ mounted. CanMount S.number fsid.now (S.disk side.old).tree (D.state dev.old).disk.reads mounted.numbers.committed) }
-    ensures refused { S.tells side.new → D.tells dev.new
-        → IfErr result (Explains S.number fsid.now (S.disk side.old).tree (D.state dev.old).disk.reads) }
-    ensures only { S.tells side.new → D.tells dev.new → (o : Objects) (n last : ℕ) → StandsNow S.image fsid.now (S.disk side.old) (D.state dev.old).disk o n last
+    ensures can { T.tells tree.new → D.tells dev.new
+        → IfOk result (λ mounted. CanMount S.fits S.number fsid.now (T.disk tree.old).tree (D.state dev.old).disk.reads mounted.numbers.committed) }
+    ensures refused { T.tells tree.new → D.tells dev.new
+        → IfErr result (Explains S.fits S.number fsid.now (T.disk tree.old).tree (D.state dev.old).disk.reads) }
+    ensures only { T.tells tree.new → D.tells dev.new → (o : Objects) (n last : ℕ)
+        → (s : StandsNow (S.image (S.set side.now)) fsid.now (T.disk tree.old) (D.state dev.old).disk o n last) → AreFit S.fits s.txns
         → IsUnspentImage (D.state dev.old).disk.reads → IfErr result IsOutside }
-    ensures tree_stays { S.tells side.new → IfErr result (λ fault. IsFoundFirst fault → Stays (S.disk side.old) (S.disk side.new)) }
+    ensures tree_stays { T.tells tree.new → IfErr result (λ fault. IsFoundFirst fault → Stays (T.disk tree.old) (T.disk tree.new)) }
     ensures device_reads { D.tells dev.new → IfErr result (λ fault. IsFoundFirst fault → (D.state dev.new).disk.reads ≡ (D.state dev.old).disk.reads) }
     ensures no_image { D.tells dev.new → ReadsSound (D.state dev.old).disk
         → IfErr result (λ fault. IsFoundFirst fault → Within (D.state dev.old).disk (D.state dev.new).disk) }
-    ensures undamaged { S.tells side.new → (p : Path) → result ≢ Err (MountFault.Damaged p) }
-    ensures told { S.tells side.new → S.tells side.old }
+    ensures undamaged { T.tells tree.new → (p : Path) → result ≢ Err (MountFault.Damaged p) }
+    ensures told { T.tells tree.new → T.tells tree.old }
     ensures honest { D.tells dev.new → D.tells dev.old }
     ensures extent { (D.state dev.new).size ≡ (D.state dev.old).size }
-    ensures tree { IsErrOf result MountFault.Tree → Counted (S.disk side.old).faults (S.disk side.new).faults }
+    ensures tree { IsErrOf result MountFault.Tree → Counted (T.disk tree.old).faults (T.disk tree.new).faults }
     ensures device { IsErrOf result MountFault.Device → Counted (D.state dev.old).faults (D.state dev.new).faults }
-    ensures tree_faults { (S.disk side.old).faults ≤ (S.disk side.new).faults }
+    ensures tree_faults { (T.disk tree.old).faults ≤ (T.disk tree.new).faults }
     ensures device_faults { (D.state dev.old).faults ≤ (D.state dev.new).faults }
 {
     sound_law();
-    let found = match find(alloc, side, dev, fsid) {
+    let found = match find(alloc, side, tree, dev, fsid) {
         Ok(found) => found,
         Err(fault) => return Err(fault),
     };
     let mut ring = found.ring;
     let committed = found.committed;
-    match go_on(alloc, side, &mut ring, dev, committed) {
+    match go_on(alloc, side, tree, &mut ring, dev, committed) {
         Ok(()) => {}
         Err(fault) => return Err(fault),
     }

@@ -20,6 +20,10 @@ pub record AreDue (h : History) (n : ℕ) (ws : List Queued) : Type 0 where
   pub room : n + length ws ≤ end_of h
   pub each : (i : ℕ) (q : Queued) → IsAt ws i q → (decoded q.payload ≡ Ok q.txn.ops) × IsTxn h (n + i + 1) q.txn.ops
 
+-- the operations of each meet this
+abbrev pub AllMeet : (List Op → Type 0) → List Queued → Type 0
+AllMeet fits ws = (i : ℕ) (q : Queued) → IsAt ws i q → fits q.txn.ops
+
 -- an empty ring of this size takes each
 abbrev pub AllFit : ℕ → List Queued → Type 0
 AllFit size ws = (i : ℕ) (q : Queued) → IsAt ws i q → (length q.payload < 2 ^ 32) × (need (length q.payload) ≤ size)

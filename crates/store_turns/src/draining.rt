@@ -6,7 +6,7 @@ ghost use Rattle.ring_journal.specs.State.{Holds};
 ghost use Rattle.store_history.specs.History.{History};
 ghost use Rattle.store_history.specs.Pair.{PairsStand};
 ghost use Rattle.store_turns.specs.State.{Fits, Holding};
-ghost use Rattle.store_turns.specs.Waiting.{AreDue, AllFit};
+ghost use Rattle.store_turns.specs.Waiting.{AreDue, AllFit, AllMeet};
 
 use crate::committing::commit;
 use crate::numbers::{Numbers, Queued, StoreFault};
@@ -16,13 +16,15 @@ use dev_api::Device;
 use ring_journal::Ring;
 use std::alloc::Global;
 use store_history::journal_law;
+use tree_api::FileTree;
 
 /// Journals, syncs and applies one transaction after the other, and then commits. It commits in between where the
 /// journal has no room.
-pub fn drain<S: Side, D: Device>(
+pub fn drain<T: FileTree, S: Side<T>, D: Device>(
     alloc: Global,
     core: &mut Numbers,
-    side: &mut S,
+    side: &S,
+    tree: &mut T,
     ring: &mut Ring,
     dev: &mut D,
     waiting: &[Queued],
@@ -30,23 +32,28 @@ pub fn drain<S: Side, D: Device>(
     requires counts { Fits core.old ring.old }
     requires small { core.old.journalled + length waiting.now < 2 ^ 63 }
     requires extent { (D.state dev.old).size ≡ ring.old.head.size }
-    requires ready { S.tells side.old → S.ready (S.disk side.old) }
+    requires ready { T.tells tree.old → S.ready (S.set side.now) (T.disk tree.old) }
     requires holds { D.tells dev.old → Holds ring.old (D.state dev.old).disk }
+    requires fit { AllMeet S.fits waiting.now }
     requires fits { AllFit (ring.old.head.size - 8192) waiting.now }
     ensures counts { OnOk result (Fits core.new ring.new) }
     ensures number { OnOk result (core.new.journalled ≡ core.old.journalled + length waiting.now) }
     ensures grows { core.old.journalled ≤ core.new.journalled }
     ensures committed { OnOk result (core.new.committed ≡ core.new.journalled) }
-    ensures ready { S.tells side.new → OnOk result (S.ready (S.disk side.new)) }
+    ensures ready { T.tells tree.new → OnOk result (S.ready (S.set side.now) (T.disk tree.new)) }
     ensures holds { D.tells dev.new → OnOk result (Holds ring.new (D.state dev.new).disk) }
-    ensures exit { S.tells side.new → D.tells dev.new → (fsid : List ℕ) (h : History) → Holding S.image S.reads fsid h core.old (S.disk side.old) ring.old (D.state dev.old).disk
-        → AreDue h core.old.journalled waiting.now → PairsStand S.image fsid h core.new.journalled (S.disk side.new).may (D.state dev.new).disk }
-    ensures done { S.tells side.new → D.tells dev.new → (fsid : List ℕ) (h : History) → Holding S.image S.reads fsid h core.old (S.disk side.old) ring.old (D.state dev.old).disk
-        → AreDue h core.old.journalled waiting.now → OnOk result (Holding S.image S.reads fsid h core.new (S.disk side.new) ring.new (D.state dev.new).disk) }
-    ensures undamaged { S.tells side.new → (p : Path) → result ≢ Err (StoreFault.Damaged p) }
-    ensures told { S.tells side.new → S.tells side.old }
+    ensures exit { T.tells tree.new → D.tells dev.new → (fsid : List ℕ) (h : History)
+        → Holding (S.image (S.set side.now)) (S.reads (S.set side.now)) fsid h core.old (T.disk tree.old) ring.old (D.state dev.old).disk
+        → AreDue h core.old.journalled waiting.now
+        → PairsStand (S.image (S.set side.now)) fsid h core.new.journalled (T.disk tree.new).may (D.state dev.new).disk }
+    ensures done { T.tells tree.new → D.tells dev.new → (fsid : List ℕ) (h : History)
+        → Holding (S.image (S.set side.now)) (S.reads (S.set side.now)) fsid h core.old (T.disk tree.old) ring.old (D.state dev.old).disk
+        → AreDue h core.old.journalled waiting.now
+        → OnOk result (Holding (S.image (S.set side.now)) (S.reads (S.set side.now)) fsid h core.new (T.disk tree.new) ring.new (D.state dev.new).disk) }
+    ensures undamaged { T.tells tree.new → (p : Path) → result ≢ Err (StoreFault.Damaged p) }
+    ensures told { T.tells tree.new → T.tells tree.old }
     ensures honest { D.tells dev.new → D.tells dev.old }
-    ensures tree { IsErrOf result StoreFault.Tree → Counted (S.disk side.old).faults (S.disk side.new).faults }
+    ensures tree { IsErrOf result StoreFault.Tree → Counted (T.disk tree.old).faults (T.disk tree.new).faults }
     ensures device { IsErrOf result StoreFault.Device → Counted (D.state dev.old).faults (D.state dev.new).faults }
 {
     journal_law();
@@ -55,6 +62,7 @@ pub fn drain<S: Side, D: Device>(
             alloc,
             core,
             side,
+            tree,
             ring,
             dev,
             one.payload.slice(),
@@ -64,5 +72,5 @@ pub fn drain<S: Side, D: Device>(
     if core.committed == core.journalled {
         return Ok(());
     }
-    commit(alloc, core, side, ring, dev)
+    commit(alloc, core, side, tree, ring, dev)
 }

@@ -13,7 +13,7 @@ use crate::numbers::How;
 use crate::side::Side;
 use index_fault::IndexFault;
 use std::alloc::Global;
-use tree_api::TreePath;
+use tree_api::{FileTree, TreePath};
 use txn_codec::{CodecFault, decode_txn};
 
 /// Why an entry was not done again.
@@ -28,7 +28,7 @@ pub enum RedoFault {
     Tree,
     /// Want of memory.
     Memory,
-    /// Its payload is no transaction.
+    /// Its payload is no transaction, or one that can't be done.
     BadEntry,
 }
 
@@ -45,25 +45,30 @@ impl From<IndexFault> for RedoFault {
 }
 
 /// Does the transaction of an entry again, where its number is above the committed one.
-pub fn redo<S: Side>(
+pub fn redo<T: FileTree, S: Side<T>>(
     alloc: Global,
-    side: &mut S,
+    side: &S,
+    tree: &mut T,
     seq: u64,
     payload: &[u8],
     committed: u64,
 ) -> Result<(), RedoFault>
-    requires ready { S.tells side.old → S.ready (S.disk side.old) }
-    ensures ready { S.tells side.new → OnOk result (S.ready (S.disk side.new)) }
-    ensures skipped { seq ≤ committed → side.new ≡ side.old }
-    ensures keeps { S.tells side.new → committed < seq → WhereReplayed S.image S.reads committed seq payload.now (S.disk side.old) (λ h hi. Keeps (S.image h committed committed hi) (S.disk side.old) (S.disk side.new)) }
-    ensures done { S.tells side.new → committed < seq → WhereReplayed S.image S.reads committed seq payload.now (S.disk side.old) (λ h hi. OnOk result (S.reads Replay h seq (S.disk side.new).tree)) }
-    ensures spelled { committed < seq → OnOk result ((ops : List Op) × (decoded payload.now ≡ Ok ops)) }
-    ensures bad { IsErrOf result RedoFault.BadEntry → (ops : List Op) → decoded payload.now ≡ Ok ops → ⊥ }
+    requires ready { T.tells tree.old → S.ready (S.set side.now) (T.disk tree.old) }
+    ensures ready { T.tells tree.new → OnOk result (S.ready (S.set side.now) (T.disk tree.new)) }
+    ensures skipped { seq ≤ committed → tree.new ≡ tree.old }
+    ensures keeps { T.tells tree.new → committed < seq
+        → WhereReplayed (S.image (S.set side.now)) (S.reads (S.set side.now)) committed seq payload.now (T.disk tree.old)
+        (λ h hi. Keeps (S.image (S.set side.now) h committed committed hi) (T.disk tree.old) (T.disk tree.new)) }
+    ensures done { T.tells tree.new → committed < seq
+        → WhereReplayed (S.image (S.set side.now)) (S.reads (S.set side.now)) committed seq payload.now (T.disk tree.old)
+        (λ h hi. OnOk result (S.reads (S.set side.now) Replay h seq (T.disk tree.new).tree)) }
+    ensures spelled { committed < seq → OnOk result ((ops : List Op) × (decoded payload.now ≡ Ok ops) × S.fits ops) }
+    ensures bad { IsErrOf result RedoFault.BadEntry → (ops : List Op) → decoded payload.now ≡ Ok ops → S.fits ops → ⊥ }
     ensures above { IsErrOf result RedoFault.BadEntry → committed < seq }
-    ensures undamaged { S.tells side.new → (p : Path) → result ≢ Err (RedoFault.Damaged p) }
-    ensures told { S.tells side.new → S.tells side.old }
-    ensures faults { (S.disk side.old).faults ≤ (S.disk side.new).faults }
-    ensures cause { IsErrOf result RedoFault.Tree → Counted (S.disk side.old).faults (S.disk side.new).faults }
+    ensures undamaged { T.tells tree.new → (p : Path) → result ≢ Err (RedoFault.Damaged p) }
+    ensures told { T.tells tree.new → T.tells tree.old }
+    ensures faults { (T.disk tree.old).faults ≤ (T.disk tree.new).faults }
+    ensures cause { IsErrOf result RedoFault.Tree → Counted (T.disk tree.old).faults (T.disk tree.new).faults }
 {
     if seq <= committed {
         return Ok(());
@@ -73,6 +78,9 @@ pub fn redo<S: Side>(
         Err(CodecFault::Memory) => return Err(RedoFault::Memory),
         Err(_) => return Err(RedoFault::BadEntry),
     };
-    side.apply(alloc, How::Replay, seq, txn.ops.slice())?;
+    if !side.is_fit(txn.ops.slice()) {
+        return Err(RedoFault::BadEntry);
+    }
+    side.apply(alloc, tree, How::Replay, seq, txn.ops.slice())?;
     Ok(())
 }

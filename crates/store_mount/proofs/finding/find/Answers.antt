@@ -7,10 +7,11 @@ use Rattle.store_mount.proofs.finding.find.Goals as goal
 pub returns-in-Err-committed_number-clause-refused : goal.returns-in-Err-committed_number-clause-refused
 returns-in-Err-committed_number-clause-refused g c = λ tells told.
     let S = g.S.Side in
+    let set = S.set c.args.side.now in
     let same = (c.sync_all.ensures.synced (search rules)).stays.tree in
     let ring = c.in_ok-ring.ensures in
     let loads : Loads (g.D.Device.state c.args.dev.now).disk.reads c.args.fsid.now = record { head = c.in_ok-ring.ring.head; header = ring.head told; fsid_is = ring.fsid; unspent = ring.unspent } in
-    number_explains S.number (S.disk c.args.side.now).tree (g.D.Device.state c.args.dev.now).disk.reads c.args.fsid.now loads c.in-Err-committed_number.fault
+    number_explains S.fits S.number (g.T.FileTree.disk c.args.tree.now).tree (g.D.Device.state c.args.dev.now).disk.reads c.args.fsid.now loads c.in-Err-committed_number.fault
     (subst (λ (t : Tree). RefusesNumber S.number t c.in-Err-committed_number.fault) same (c.in-Err-committed_number.ensures.refused (search rules)))
 
 pub returns-then-start-committed-clause-refused : goal.returns-then-start-committed-clause-refused

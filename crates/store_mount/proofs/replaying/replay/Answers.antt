@@ -23,11 +23,12 @@ loop-stored-init g c = record {
   tree_faults = omega arith;
   device_faults = omega arith;
   ready = c.requires.ready;
-  spelled = λ told. spelled_none _ _ _ c.requires.untold;
+  spelled = λ told. spelled_none _ _ _ _ c.requires.untold;
   gone = λ tells told.
       let S = g.S.Side in
-      begun S.image S.reads S.number S.laid g.met.S.Side.theory c.args.committed c.args.ring.now.head.seq c.requires.no_gap (readable (g.D.Device.state c.args.dev.now).disk.stable)
-      (S.disk c.args.side.now) (g.met.S.Side.sound c.args.side.now tells) (c.args.ring.now.head.seq + c.args.ring.now.count) (omega (arith, c.requires.untold, c.requires.no_gap));
+      let set = S.set c.args.side.now in
+      begun (S.image set) (S.reads set) S.number (S.laid set) (g.met.S.Side.theory set) c.args.committed c.args.ring.now.head.seq c.requires.no_gap (readable (g.D.Device.state c.args.dev.now).disk.stable)
+      (g.T.FileTree.disk c.args.tree.now) (g.met.T.FileTree.sound c.args.tree.now tells) (c.args.ring.now.head.seq + c.args.ring.now.count) (omega (arith, c.requires.untold, c.requires.no_gap));
 }
 
 pub returns-in-Ok-None-clause-keeps : goal.returns-in-Ok-None-clause-keeps
@@ -45,12 +46,13 @@ if_none P o e h = subst (λ (a : Option Stored). IfNone a P) e h
 pub returns-in-Ok-None-clause-done : goal.returns-in-Ok-None-clause-done
 returns-in-Ok-None-clause-done g c = λ tells told.
     let S = g.S.Side in
+    let set = S.set c.args.side.now in
     let inv = c.loop-stored.invariant in
     let es = readable (g.D.Device.state c.args.dev.now).disk.stable in
     let l = ended_length _ _ (if_none _ _ c.in-Ok-None.field-0-is (c.in-Ok-None.ensures.ended told)) in
     let same : c.next.new.self ≡ c.loop-stored.ring = if_none _ _ c.in-Ok-None.field-0-is c.in-Ok-None.ensures.at_end in
     let back = ap (λ (d : Disk). length (readable d.stable)) (c.next.ensures.disk told ∙ inv.disk (search rules)) in
-    finished S.image S.reads S.number S.laid g.met.S.Side.theory c.args.committed c.args.ring.now.head.seq c.requires.no_gap es (S.disk c.args.side.now) (S.disk c.loop-stored.side) c.loop-stored.ring.count
+    finished (S.image set) (S.reads set) S.number (S.laid set) (g.met.S.Side.theory set) c.args.committed c.args.ring.now.head.seq c.requires.no_gap es (g.T.FileTree.disk c.args.tree.now) (g.T.FileTree.disk c.loop-stored.tree) c.loop-stored.ring.count
     (sym back ∙ l ∙ ap (λ (s : State). s.count) same) (inv.gone tells (search rules))
 
 pub returns-in-Ok-None-clause-spelled : goal.returns-in-Ok-None-clause-spelled
@@ -60,7 +62,7 @@ returns-in-Ok-None-clause-spelled g c = λ told.
     let l = ended_length _ _ (if_none _ _ c.in-Ok-None.field-0-is (c.in-Ok-None.ensures.ended told)) in
     let same : c.next.new.self ≡ c.loop-stored.ring = if_none _ _ c.in-Ok-None.field-0-is c.in-Ok-None.ensures.at_end in
     let back = ap (λ (d : Disk). length (readable d.stable)) (c.next.ensures.disk told ∙ inv.disk (search rules)) in
-    spelled_all (c.args.committed + 1 - c.args.ring.now.head.seq) es c.loop-stored.ring.count (sym back ∙ l ∙ ap (λ (s : State). s.count) same) (inv.spelled (search rules))
+    spelled_all g.S.Side.fits (c.args.committed + 1 - c.args.ring.now.head.seq) es c.loop-stored.ring.count (sym back ∙ l ∙ ap (λ (s : State). s.count) same) (inv.spelled (search rules))
 
 pub returns-in-Err : goal.returns-in-Err
 returns-in-Err g c =
@@ -90,6 +92,7 @@ returns-in-Err g c =
 pub returns-in-Err-redo_entry-clause-keeps : goal.returns-in-Err-redo_entry-clause-keeps
 returns-in-Err-redo_entry-clause-keeps g c = λ tells told.
     let S = g.S.Side in
+    let set = S.set c.args.side.now in
     let inv = c.loop-stored.invariant in
     let stored = c.in-Ok-Some.stored in
     let es = readable (g.D.Device.state c.args.dev.now).disk.stable in
@@ -97,8 +100,8 @@ returns-in-Err-redo_entry-clause-keeps g c = λ tells told.
     let seq : c.loop-stored.ring.head.seq ≡ c.args.ring.now.head.seq = ap (λ (h : Head). h.seq) inv.head in
     let one : told_first (drop c.loop-stored.ring.count es) ≡ Some stored =
     sym (sym c.in-Ok-Some.field-0-is ∙ c.in-Ok-Some.ensures.told told ∙ ap (λ (d : Disk). told_first (drop c.loop-stored.ring.count (readable d.stable))) (inv.disk (search rules))) in
-    keeps_on S.image S.reads S.number S.laid g.met.S.Side.theory c.args.committed c.args.ring.now.head.seq c.requires.no_gap es S.disk c.loop-stored.side c.redo_entry.new.side (S.disk c.args.side.now)
-    (g.met.S.Side.sound c.loop-stored.side (search rules)) c.loop-stored.ring.count stored one (omega (arith, number.0, seq)) (inv.gone (search rules) (search rules)) c.redo_entry.ensures.skipped (c.redo_entry.ensures.keeps tells)
+    keeps_on (S.image set) (S.reads set) S.number (S.laid set) (g.met.S.Side.theory set) c.args.committed c.args.ring.now.head.seq c.requires.no_gap es g.T.FileTree.disk c.loop-stored.tree c.redo_entry.new.tree (g.T.FileTree.disk c.args.tree.now)
+    (g.met.T.FileTree.sound c.loop-stored.tree (search rules)) c.loop-stored.ring.count stored one (omega (arith, number.0, seq)) (inv.gone (search rules) (search rules)) c.redo_entry.ensures.skipped (c.redo_entry.ensures.keeps tells)
 
 pub returns-in-Err-redo_entry-clause-refused : goal.returns-in-Err-redo_entry-clause-refused
 returns-in-Err-redo_entry-clause-refused g c = λ told.
@@ -109,7 +112,7 @@ returns-in-Err-redo_entry-clause-refused g c = λ told.
     let seq : c.loop-stored.ring.head.seq ≡ c.args.ring.now.head.seq = ap (λ (h : Head). h.seq) inv.head in
     let one : told_first (drop c.loop-stored.ring.count es) ≡ Some stored =
     sym (sym c.in-Ok-Some.field-0-is ∙ c.in-Ok-Some.ensures.told told ∙ ap (λ (d : Disk). told_first (drop c.loop-stored.ring.count (readable d.stable))) (inv.disk (search rules))) in
-    entry_refuses c.args.committed c.args.ring.now.head.seq c.loop-stored.ring.count es stored one (omega (arith, number.0, seq)) (inv.spelled (search rules))
+    entry_refuses g.S.Side.fits c.args.committed c.args.ring.now.head.seq c.loop-stored.ring.count es stored one (omega (arith, number.0, seq)) (inv.spelled (search rules))
     c.in-Err-redo_entry.fault c.in-Err-redo_entry.ensures.refused
 
 pub loop-stored-smaller : goal.loop-stored-smaller
@@ -121,6 +124,7 @@ loop-stored-smaller g c =
 pub loop-stored-preserved : goal.loop-stored-preserved
 loop-stored-preserved g c =
     let S = g.S.Side in
+    let set = S.set c.args.side.now in
     let inv = c.loop-stored.invariant in
     let next = c.next.ensures in
     let stored = c.in-Ok-Some.stored in
@@ -143,12 +147,12 @@ loop-stored-preserved g c =
       spelled = λ told.
           let one : told_first (drop c.loop-stored.ring.count es) ≡ Some stored =
           sym (sym c.in-Ok-Some.field-0-is ∙ c.in-Ok-Some.ensures.told told ∙ ap (λ (d : Disk). told_first (drop c.loop-stored.ring.count (readable d.stable))) (inv.disk (search rules))) in
-          subst (λ (i : ℕ). Spelled (c.args.committed + 1 - first) es i) (sym number.1)
-          (spelled_more (c.args.committed + 1 - first) es c.loop-stored.ring.count stored one (λ le. c.in-Ok.ensures.spelled (omega (arith, le, number.0, seq, c.requires.no_gap))) (inv.spelled (search rules)));
+          subst (λ (i : ℕ). Spelled S.fits (c.args.committed + 1 - first) es i) (sym number.1)
+          (spelled_more S.fits (c.args.committed + 1 - first) es c.loop-stored.ring.count stored one (λ le. c.in-Ok.ensures.spelled (omega (arith, le, number.0, seq, c.requires.no_gap))) (inv.spelled (search rules)));
       gone = λ tells told.
           let one : told_first (drop c.loop-stored.ring.count es) ≡ Some stored =
           sym (sym c.in-Ok-Some.field-0-is ∙ c.in-Ok-Some.ensures.told told ∙ ap (λ (d : Disk). told_first (drop c.loop-stored.ring.count (readable d.stable))) (inv.disk (search rules))) in
-          goes_on S.image S.reads S.number S.laid g.met.S.Side.theory c.args.committed first c.requires.no_gap es S.disk c.loop-stored.side c.redo_entry.new.side (S.disk c.args.side.now)
-          (g.met.S.Side.sound c.loop-stored.side (search rules)) c.loop-stored.ring.count stored one (omega (arith, number.0, seq)) (inv.gone (search rules) (search rules)) c.redo_entry.ensures.skipped (c.redo_entry.ensures.keeps tells)
+          goes_on (S.image set) (S.reads set) S.number (S.laid set) (g.met.S.Side.theory set) c.args.committed first c.requires.no_gap es g.T.FileTree.disk c.loop-stored.tree c.redo_entry.new.tree (g.T.FileTree.disk c.args.tree.now)
+          (g.met.T.FileTree.sound c.loop-stored.tree (search rules)) c.loop-stored.ring.count stored one (omega (arith, number.0, seq)) (inv.gone (search rules) (search rules)) c.redo_entry.ensures.skipped (c.redo_entry.ensures.keeps tells)
           (first + c.next.new.self.count) (omega (arith, number.0, number.1, seq)) (c.in-Ok.ensures.done tells);
     }

@@ -15,14 +15,14 @@ invariant-loop-stored g l = record {
   loaded : g.D.Device.tells l.dev → Loaded l.ring (g.D.Device.state l.dev).disk;
   disk : g.D.Device.tells l.dev → (g.D.Device.state l.dev).disk ≡ (g.D.Device.state l.fn.dev).disk;
   past : g.D.Device.tells l.dev → (g.D.Device.state l.dev).past ≡ (g.D.Device.state l.fn.dev).past;
-  told : g.S.Side.tells l.side → g.S.Side.tells l.fn.side;
+  told : g.T.FileTree.tells l.tree → g.T.FileTree.tells l.fn.tree;
   honest : g.D.Device.tells l.dev → g.D.Device.tells l.fn.dev;
-  tree_faults : (g.S.Side.disk l.fn.side).faults ≤ (g.S.Side.disk l.side).faults;
+  tree_faults : (g.T.FileTree.disk l.fn.tree).faults ≤ (g.T.FileTree.disk l.tree).faults;
   device_faults : (g.D.Device.state l.fn.dev).faults ≤ (g.D.Device.state l.dev).faults;
-  ready : g.S.Side.tells l.side → g.S.Side.ready (g.S.Side.disk l.side);
-  spelled : g.D.Device.tells l.dev → Spelled (l.committed + 1 - l.fn.ring.head.seq) (readable (g.D.Device.state l.fn.dev).disk.stable) l.ring.count;
-  gone : g.S.Side.tells l.side → g.D.Device.tells l.dev → WhereSpelled g.S.Side.image l.committed l.fn.ring.head.seq (readable (g.D.Device.state l.fn.dev).disk.stable) (g.S.Side.disk l.fn.side)
-      (GoneOn g.S.Side.image g.S.Side.reads l.committed (l.fn.ring.head.seq + l.ring.count) (g.S.Side.disk l.fn.side) (g.S.Side.disk l.side));
+  ready : g.T.FileTree.tells l.tree → g.S.Side.ready (g.S.Side.set l.side) (g.T.FileTree.disk l.tree);
+  spelled : g.D.Device.tells l.dev → Spelled g.S.Side.fits (l.committed + 1 - l.fn.ring.head.seq) (readable (g.D.Device.state l.fn.dev).disk.stable) l.ring.count;
+  gone : g.T.FileTree.tells l.tree → g.D.Device.tells l.dev → WhereSpelled (g.S.Side.image (g.S.Side.set l.side)) l.committed l.fn.ring.head.seq (readable (g.D.Device.state l.fn.dev).disk.stable) (g.T.FileTree.disk l.fn.tree)
+      (GoneOn (g.S.Side.image (g.S.Side.set l.side)) (g.S.Side.reads (g.S.Side.set l.side)) l.committed (l.fn.ring.head.seq + l.ring.count) (g.T.FileTree.disk l.fn.tree) (g.T.FileTree.disk l.tree));
 }
 
 abbrev pub decreases-loop-stored : goal.decreases-loop-stored

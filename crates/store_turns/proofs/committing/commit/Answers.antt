@@ -6,23 +6,26 @@ use Rattle.store_turns.proofs.committing.commit.Goals as goal
 pub returns-in_err-put_number-clause-exit : goal.returns-in_err-put_number-clause-exit
 returns-in_err-put_number-clause-exit g c = λ tells told fsid h k t may b img so fresh.
     let S = g.S.Side in
+    let set = S.set c.args.side.now in
     let keeps = c.put_number.ensures.keeps (search rules) h _ k.ring.low k.images k.reads in
     let j = c.journal_law.ensures fsid h _ _ _ c.args.ring.now _ k.ring b img so in
-    first_pair S.image S.reads S.number S.laid g.met.S.Side.theory h _ _ k.ring.low fsid k.ring.base k.ring.fits k.small t b
-    (now_from _ _ _ (g.met.S.Side.sound c.put_number.new.side (search rules)) keeps t may) j
+    first_pair (S.image set) (S.reads set) S.number (S.laid set) (g.met.S.Side.theory set) h _ _ k.ring.low fsid k.ring.base k.ring.fits k.small t b
+    (now_from _ _ _ (g.met.T.FileTree.sound c.put_number.new.tree (search rules)) keeps t may) j
 
 pub returns-in_err-give_up-clause-exit : goal.returns-in_err-give_up-clause-exit
 returns-in_err-give_up-clause-exit g c = λ tells told fsid h k t may b img so fresh.
     let S = g.S.Side in
+    let set = S.set c.args.side.now in
     let images = c.in_ok-put_number.ensures.done (search rules) h _ k.ring.low k.images k.reads in
-    second_pair S.image S.reads S.number S.laid g.met.S.Side.theory h _ _ k.ring.low fsid k.ring.base k.ring.fits k.small t b (images t may)
+    second_pair (S.image set) (S.reads set) S.number (S.laid set) (g.met.S.Side.theory set) h _ _ k.ring.low fsid k.ring.base k.ring.fits k.small t b (images t may)
     ((c.give_up.ensures.crash (search rules) fsid h _ _ _ (omega arith) k.ring).has b img so)
 
 pub returns-clause-exit : goal.returns-clause-exit
 returns-clause-exit g c = λ tells told fsid h k t may b img so fresh.
     let S = g.S.Side in
+    let set = S.set c.args.side.now in
     let images = c.in_ok-put_number.ensures.done (search rules) h _ k.ring.low k.images k.reads in
-    second_pair S.image S.reads S.number S.laid g.met.S.Side.theory h _ _ k.ring.low fsid k.ring.base k.ring.fits k.small t b (images t may)
+    second_pair (S.image set) (S.reads set) S.number (S.laid set) (g.met.S.Side.theory set) h _ _ k.ring.low fsid k.ring.base k.ring.fits k.small t b (images t may)
     ((c.give_up.ensures.crash (search rules) fsid h _ _ _ (omega arith) k.ring).has b img so)
 
 pub returns-clause-counts : goal.returns-clause-counts
@@ -38,5 +41,6 @@ returns-clause-emptied g c =
 pub returns-clause-done : goal.returns-clause-done
 returns-clause-done g c = λ tells told fsid h k.
     let S = g.S.Side in
+    let set = S.set c.args.side.now in
     let images = c.in_ok-put_number.ensures.done (search rules) h _ k.ring.low k.images k.reads in
-    committed_kept S.image S.reads fsid h c.args.core.now (S.disk c.args.side.now) _ _ k (S.disk c.put_number.new.side) _ _ images (c.put_number.ensures.reads (search rules) h k.reads) (c.in_ok-give_up.ensures.done (search rules) fsid h _ _ _ (omega arith) k.ring)
+    committed_kept (S.image set) (S.reads set) fsid h c.args.core.now (g.T.FileTree.disk c.args.tree.now) _ _ k (g.T.FileTree.disk c.put_number.new.tree) _ _ images (c.put_number.ensures.reads (search rules) h k.reads) (c.in_ok-give_up.ensures.done (search rules) fsid h _ _ _ (omega arith) k.ring)

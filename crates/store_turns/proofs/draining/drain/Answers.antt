@@ -36,9 +36,10 @@ loop-one-preserved g c =
 pub returns-then-core-clause-exit : goal.returns-then-core-clause-exit
 returns-then-core-clause-exit g c = λ tells told fsid h k0 due t may b img so fresh.
     let S = g.S.Side in
+    let set = S.set c.args.side.now in
     let inv = c.loop-one.invariant in
     let k = inv.kept (search rules) (search rules) fsid h k0 due in
-    first_pair S.image S.reads S.number S.laid g.met.S.Side.theory h _ _ k.ring.low fsid k.ring.base k.ring.fits k.small t b (inl (k.images t may))
+    first_pair (S.image set) (S.reads set) S.number (S.laid set) (g.met.S.Side.theory set) h _ _ k.ring.low fsid k.ring.base k.ring.fits k.small t b (inl (k.images t may))
     (c.journal_law.ensures fsid h _ _ _ c.loop-one.ring _ k.ring b img so)
 
 pub returns-clause-exit : goal.returns-clause-exit

@@ -11,13 +11,14 @@ invariant-loop-one g l = record {
   number : l.core.journalled ≡ l.fn.core.journalled + l.one-index;
   extent : (g.D.Device.state l.dev).size ≡ l.ring.head.size;
   size : l.ring.head.size ≡ l.fn.ring.head.size;
-  told : g.S.Side.tells l.side → g.S.Side.tells l.fn.side;
+  told : g.T.FileTree.tells l.tree → g.T.FileTree.tells l.fn.tree;
   honest : g.D.Device.tells l.dev → g.D.Device.tells l.fn.dev;
-  ready : g.S.Side.tells l.side → g.S.Side.ready (g.S.Side.disk l.side);
+  ready : g.T.FileTree.tells l.tree → g.S.Side.ready (g.S.Side.set l.side) (g.T.FileTree.disk l.tree);
   holds : g.D.Device.tells l.dev → Holds l.ring (g.D.Device.state l.dev).disk;
-  tree_faults : (g.S.Side.disk l.fn.side).faults ≤ (g.S.Side.disk l.side).faults;
+  tree_faults : (g.T.FileTree.disk l.fn.tree).faults ≤ (g.T.FileTree.disk l.tree).faults;
   device_faults : (g.D.Device.state l.fn.dev).faults ≤ (g.D.Device.state l.dev).faults;
-  kept : g.S.Side.tells l.side → g.D.Device.tells l.dev → (fsid : List ℕ) (h : History) → Holding g.S.Side.image g.S.Side.reads fsid h l.fn.core (g.S.Side.disk l.fn.side) l.fn.ring (g.D.Device.state l.fn.dev).disk
+  kept : g.T.FileTree.tells l.tree → g.D.Device.tells l.dev → (fsid : List ℕ) (h : History)
+      → Holding (g.S.Side.image (g.S.Side.set l.side)) (g.S.Side.reads (g.S.Side.set l.side)) fsid h l.fn.core (g.T.FileTree.disk l.fn.tree) l.fn.ring (g.D.Device.state l.fn.dev).disk
       → AreDue h l.fn.core.journalled l.waiting
-      → Holding g.S.Side.image g.S.Side.reads fsid h l.core (g.S.Side.disk l.side) l.ring (g.D.Device.state l.dev).disk;
+      → Holding (g.S.Side.image (g.S.Side.set l.side)) (g.S.Side.reads (g.S.Side.set l.side)) fsid h l.core (g.T.FileTree.disk l.tree) l.ring (g.D.Device.state l.dev).disk;
 }
