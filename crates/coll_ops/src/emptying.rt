@@ -16,12 +16,15 @@ use std::alloc::Global;
 use tree_api::{FileTree, TreePath};
 
 /// How many trees the trash has.
+///
+/// Never answers `Damaged`.
 pub fn trash_count<T: FileTree>(alloc: Global, tree: &mut T) -> Result<usize, IndexFault>
     requires trash { T.tells tree.old → IsDir (T.disk tree.old).tree trash }
     ensures told { T.tells tree.new → T.tells tree.old }
     ensures counts { Counts (IsErrOf result IndexFault.Tree) 1 0 (T.disk tree.old) (T.disk tree.new) }
     ensures still { T.tells tree.new → Still (T.disk tree.old) (T.disk tree.new) }
     ensures count { T.tells tree.new → IfOk result (HasTrees (T.disk tree.old).tree) }
+    ensures undamaged { (p : Path) → result ≢ Err (IndexFault.Damaged p) }
 {
     let dir = trash_dir(alloc)?;
     let entries = tree.list(&dir)?;

@@ -1,5 +1,5 @@
-use Rattle.std.proofs.Common.{◌≡◌, ◌++◌, ◌+◌, ◌-◌, ◌∙◌, ap, sym, subst, length, OnOk, None, arith}
-use Rattle.tree_api.specs.Tree.{Path, Tree, IsDir}
+use Rattle.std.proofs.Common.{◌≡◌, ◌++◌, ◌+◌, ◌-◌, ◌∙◌, sym, subst, length, OnOk, None, arith}
+use Rattle.tree_api.specs.Tree.{Path, IsDir}
 use Rattle.coll_ops.specs.Changes.{Sweeps}
 use Rattle.coll_ops.proofs.Paths.{within_below}
 use Rattle.coll_ops.proofs.Clearing.{gone_sweeps, name_gone, sweeps_then, entry_now, cleared_more, cleared_all, entry_path, entry_file, entry_dir, never_root, faults_then}
