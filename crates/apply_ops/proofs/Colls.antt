@@ -1,11 +1,13 @@
 -- A collection is made, or taken away, as the next operation.
-use Rattle.std.proofs.Common.{◌≡◌, ◌≢◌, ◌⊎◌, ◌+◌, None}
+use Rattle.std.proofs.Common.{◌≡◌, ◌≢◌, ◌⊎◌, ◌+◌, None, List, [], ◌∷◌, subst, sym, Contains}
+use Rattle.std.proofs.lemmas.List.Elements.{Contains-push}
 use Rattle.fs_names.specs.declared.coll.Coll.{Coll}
 use Rattle.fs_names.specs.declared.settings.Pos.{Pos}
 use Rattle.fs_names.specs.declared.settings.Settings.{Settings}
 use Rattle.fs_names.specs.Reading.{CollFits}
 use Rattle.fs_model.specs.declared.op.Op.{Op}
 use Rattle.fs_model.specs.declared.op.Op.TheVariants.{MkColl, RmColl}
+use Rattle.fs_model.specs.Named.{colls_named}
 use Rattle.tree_api.specs.Tree.{Tree}
 use Rattle.tree_api.specs.Disk.{Disk, Sound, Keeps, Moves, From, Leaves}
 use Rattle.tree_api.proofs.Moments.{weaker}
@@ -19,6 +21,10 @@ use Rattle.tree_places.specs.Underway.{Underway}
 use Rattle.tree_places.proofs.Underway.{make_stops, makes_on, drop_stops, drops_on, own_keeps}
 use Rattle.apply_ops.specs.Next.{Spot, IsNext}
 use Rattle.apply_ops.proofs.Sites.{made_elsewhere, dropped_elsewhere}
+
+-- the one collection that an operation names
+pub names_it : (op : Op) (c : Coll) → colls_named op ≡ c ∷ [] → Contains (colls_named op) c
+names_it op c one = subst (λ (cs : List Coll). Contains cs c) (sym one) (Contains-push [] c)
 
 -- steps that leave what is the store's own
 own_moves : (R : Tree → Tree → Type 0) (old new : Disk) → ((e f : Tree) → R e f → OwnStays e f) → Moves R old new → Moves OwnStays old new

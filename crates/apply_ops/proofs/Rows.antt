@@ -1,8 +1,10 @@
 -- What each operation on one object does, as a row of the theory of replay.
-use Rattle.std.proofs.Common.{◌≡◌, ◌≢◌, List, [], ◌∷◌, length, refl, sym, ◌∙◌, ap, subst, Option, Some, None}
+use Rattle.std.proofs.Common.{◌≡◌, ◌≢◌, List, [], ◌∷◌, length, refl, sym, ◌∙◌, ap, subst, Option, Some, None, ◌⊎◌, inl, inr, ℕ}
 use Rattle.std.specs.Prelude.{slice_index_or}
 use Rattle.fs_names.specs.Text.{oid_text}
 use Rattle.fs_names.specs.declared.coll.Coll.{Coll}
+use Rattle.fs_names.specs.declared.oid.Oid.{Oid}
+use Rattle.fs_model.specs.declared.pair.Pair.{Pair}
 use Rattle.fs_model.specs.declared.op.Op.{Op}
 use Rattle.fs_model.specs.declared.op.Op.TheVariants.{Touch, Write, Zero, Truncate, Remove, SetAttrs, RmAttr, RmAttrs, Clone, CloneRange, MoveRename, MkColl, RmColl, OmapClear, OmapSet, OmapRemove, OmapRange}
 use Rattle.fs_model.specs.Named.{colls_named, made, few, first_and_second}
@@ -99,3 +101,25 @@ named_coll op n is r named = head r.0 n.coll (few r.1) [] (named ∙ (names_one 
   where
     head : (a b : Coll) (more rest : List Coll) → a ∷ more ≡ b ∷ rest → a ≡ b
     head a b more rest e = cc
+
+-- one of the eight operations on an object is on that object
+abbrev IsOneOf : Op → Type 0
+IsOneOf op =
+    ((c : Coll) × (o : Oid) × (op ≡ Touch c o))
+    ⊎ ((c : Coll) × (o : Oid) × (at : ℕ) × (bytes : List ℕ) × (op ≡ Write c o at bytes))
+    ⊎ ((c : Coll) × (o : Oid) × (at : ℕ) × (len : ℕ) × (op ≡ Zero c o at len))
+    ⊎ ((c : Coll) × (o : Oid) × (len : ℕ) × (op ≡ Truncate c o len))
+    ⊎ ((c : Coll) × (o : Oid) × (op ≡ Remove c o))
+    ⊎ ((c : Coll) × (o : Oid) × (pairs : List Pair) × (op ≡ SetAttrs c o pairs))
+    ⊎ ((c : Coll) × (o : Oid) × (name : List ℕ) × (op ≡ RmAttr c o name))
+    ⊎ ((c : Coll) × (o : Oid) × (op ≡ RmAttrs c o))
+
+pub edits_of : (op : Op) → IsOneOf op → (n : Name) × (edited op ≡ Some n)
+edits_of op (inl t) = (name_at t.0 t.1, ap edited t.2)
+edits_of op (inr (inl t)) = (name_at t.0 t.1, ap edited t.4)
+edits_of op (inr (inr (inl t))) = (name_at t.0 t.1, ap edited t.4)
+edits_of op (inr (inr (inr (inl t)))) = (name_at t.0 t.1, ap edited t.3)
+edits_of op (inr (inr (inr (inr (inl t))))) = (name_at t.0 t.1, ap edited t.2)
+edits_of op (inr (inr (inr (inr (inr (inl t)))))) = (name_at t.0 t.1, ap edited t.3)
+edits_of op (inr (inr (inr (inr (inr (inr (inl t))))))) = (name_at t.0 t.1, ap edited t.3)
+edits_of op (inr (inr (inr (inr (inr (inr (inr t))))))) = (name_at t.0 t.1, ap edited t.2)

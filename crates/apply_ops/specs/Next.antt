@@ -1,11 +1,18 @@
 -- The next operation of a transaction, and the next transaction.
-use Rattle.std.specs.Prelude.{◌≡◌, ◌-◌, ℕ, true, List, slice_get, Some}
+use Rattle.std.specs.Prelude.{◌≡◌, ◌⊎◌, ◌-◌, ℕ, true, List, Contains, slice_get, Some}
+use Rattle.fs_names.specs.declared.coll.Coll.{Coll}
+use Rattle.fs_names.specs.declared.settings.Pos.{Pos}
 use Rattle.fs_names.specs.declared.settings.Settings.{Settings}
 use Rattle.fs_model.specs.declared.op.Op.{Op}
+use Rattle.fs_model.specs.declared.op.Op.TheVariants.{RmColl}
 use Rattle.fs_model.specs.Check.{IsWithinLimits}
-use Rattle.tree_api.specs.Tree.{IsDir}
+use Rattle.fs_model.specs.Named.{colls_named}
+use Rattle.tree_api.specs.Tree.{Path, Tree, IsDir, IsFile}
 use Rattle.tree_api.specs.Disk.{Disk, Everywhere}
+use Rattle.tree_stands.specs.Trees.{dir_of}
 use Rattle.op_effects.specs.Ready.{Ready, trash}
+use Rattle.coll_ops.specs.Places.{trash_at}
+use Rattle.coll_ops.specs.Trash.{IsInTheWay}
 use Rattle.store_history.specs.History.{History}
 use Rattle.store_turns.specs.declared.numbers.How.{How}
 use Rattle.tree_places.specs.Images.{Image, reads}
@@ -33,6 +40,11 @@ pub record IsNext (set : Settings) (s : Spot) (op : Op) (d : Disk) : Type 0 wher
   pub turn : IsTurn s.how s.h s.lo s.hi s.seq s.ops
   pub here : slice_get s.ops s.i ≡ Some op
   pub now : Underway set s.how s.h s.n s.lo s.hi s.seq s.i d d
+
+-- a file in place of a collection that the operation names, or a tree in the trash, where it puts a collection, that is too deep
+abbrev pub IsInTheWayOf : Op → Pos → Tree → Path → Type 0
+IsInTheWayOf op pos t p =
+    ((c : Coll) × Contains (colls_named op) c × (p ≡ dir_of c) × IsFile t p) ⊎ ((c : Coll) × (op ≡ RmColl c) × IsInTheWay (dir_of c) (trash_at pos) t p)
 
 -- each operation is built, and has no fault of its own
 abbrev pub AllFit : List Op → Type 0

@@ -2,11 +2,12 @@
 ghost use Rattle.std.specs.Prelude.{◌≡◌, ◌+◌, ◌≤◌, true, OnOk, IsErrOf};
 ghost use Rattle.fs_model.specs.Check.{IsWithinLimits};
 ghost use Rattle.fault_count.specs.Counted.{Counted};
+ghost use Rattle.tree_api.specs.Tree.{Path};
 ghost use Rattle.tree_api.specs.Disk.{Keeps};
 ghost use Rattle.tree_places.specs.Images.{Image};
 ghost use Rattle.tree_places.specs.Underway.{Underway};
 ghost use Rattle.apply_ops.specs.Editing.{is_built};
-ghost use Rattle.apply_ops.specs.Next.{Spot, IsNext, IsReady};
+ghost use Rattle.apply_ops.specs.Next.{Spot, IsNext, IsReady, IsInTheWayOf};
 
 use crate::editing::edit;
 use coll_ops::{drop_coll, make_coll};
@@ -37,6 +38,7 @@ pub fn apply<T: FileTree>(
     ensures done { T.tells tree.new → (s : Spot) → IsNext set.now s op.now (T.disk tree.old)
         → OnOk result (Underway set.now s.how s.h s.n s.lo s.hi s.seq (s.i + 1) (T.disk tree.old) (T.disk tree.new)) }
     ensures ready { T.tells tree.new → OnOk result (IsReady set.now (T.disk tree.new)) }
+    ensures damaged { T.tells tree.new → (p : Path) → IsErrOf result (IndexFault.Damaged p) → IsInTheWayOf op.now pos (T.disk tree.old).tree p }
 {
     match op {
         Op::MkColl { c } => {

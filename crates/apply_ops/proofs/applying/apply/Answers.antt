@@ -1,25 +1,17 @@
 -- The two operations on collections, and what is left to those on objects.
-use Rattle.std.proofs.Common.{ap, ⊎_elim}
-use Rattle.tree_stands.specs.Trees.{name_at}
-use Rattle.apply_ops.specs.Editing.{edited}
+use Rattle.std.proofs.Common.{rules, inl, inr, ap}
+use Rattle.fs_model.specs.Named.{colls_named}
+use Rattle.apply_ops.proofs.Rows.{edits_of, names_one}
 use Rattle.apply_ops.proofs.Going.{guard_there, then_ok}
 use Rattle.apply_ops.proofs.Sites.{current_there, made_elsewhere, dropped_elsewhere, trash_stays}
-use Rattle.apply_ops.proofs.Colls.{make_keeps, make_done, drop_keeps, drop_done}
+use Rattle.apply_ops.proofs.Colls.{names_it, make_keeps, make_done, drop_keeps, drop_done}
 use Rattle.apply_ops.proofs.applying.apply.Goals as goal
 
 pub make_coll-requires : goal.make_coll-requires
 make_coll-requires g c = record { current = λ tells. current_there (g.T.FileTree.disk c.args.tree.now) (g.met.T.FileTree.sound c.args.tree.now tells) (c.requires.ready tells).ready.dir }
 
 pub edit-requires-clause-edits : goal.edit-requires-clause-edits
-edit-requires-clause-edits g c =
-    ⊎_elim (λ t. (name_at t.0 t.1, ap edited t.2))
-    (⊎_elim (λ t. (name_at t.0 t.1, ap edited t.4))
-    (⊎_elim (λ t. (name_at t.0 t.1, ap edited t.4))
-    (⊎_elim (λ t. (name_at t.0 t.1, ap edited t.3))
-    (⊎_elim (λ t. (name_at t.0 t.1, ap edited t.2))
-    (⊎_elim (λ t. (name_at t.0 t.1, ap edited t.3))
-    (⊎_elim (λ t. (name_at t.0 t.1, ap edited t.3)) (λ t. (name_at t.0 t.1, ap edited t.2))))))))
-    c.in-Touch.is
+edit-requires-clause-edits g c = edits_of c.args.op.now c.in-Touch.is
 
 pub returns-in-MkColl-clause-keeps : goal.returns-in-MkColl-clause-keeps
 returns-in-MkColl-clause-keeps g c = λ tells s next.
@@ -74,3 +66,17 @@ returns-in_ok-_grew-in-RmColl-clause-ready g c = λ tells.
       ready = c.in_ok-_grew-in-RmColl.ensures.ready tells c.args.set.now was.ready;
       removed = trash_stays (g.T.FileTree.disk c.args.tree.now).tree (g.T.FileTree.disk c.drop_coll.new.tree).tree (dropped_elsewhere c.in-RmColl.c c.fits-in-RmColl.ensures c.args.pos _ _ (c.drop_coll.ensures.off tells).now) was.removed;
     }
+
+pub returns-in-MkColl-clause-damaged : goal.returns-in-MkColl-clause-damaged
+returns-in-MkColl-clause-damaged g c = λ tells p e.
+    let way = c.make_coll.ensures.damaged tells p e in
+    inl (c.in-MkColl.c, names_it c.args.op.now c.in-MkColl.c (ap colls_named c.in-MkColl.is), way.0, way.1)
+
+pub returns-in_err-_grew-in-RmColl-clause-damaged : goal.returns-in_err-_grew-in-RmColl-clause-damaged
+returns-in_err-_grew-in-RmColl-clause-damaged g c = λ tells p e. inr (c.in-RmColl.c, c.in-RmColl.is, c.drop_coll.ensures.damaged tells p (search (rules, e)))
+
+pub returns-in-Touch-clause-damaged : goal.returns-in-Touch-clause-damaged
+returns-in-Touch-clause-damaged g c = λ tells p e.
+    let n = edits_of c.args.op.now c.in-Touch.is in
+    let way = c.edit.ensures.damaged tells n.0 p n.1 e in
+    inl (n.0.coll, names_it c.args.op.now n.0.coll (names_one c.args.op.now n.0 n.1).0, way.0, way.1)
