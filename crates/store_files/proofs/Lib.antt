@@ -1,0 +1,4 @@
+pub mod Lines
+pub mod Decimals
+pub mod Fsids
+pub mod Spelled
