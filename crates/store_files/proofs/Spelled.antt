@@ -1,11 +1,12 @@
 -- The text of settings, taken apart line by line.
-use Rattle.std.proofs.Common.{◌≡◌, ◌≢◌, ◌==◌, ℕ, ℤ, Bool, true, false, length, List, [], codes, sym, ap, ◌∙◌, refl}
+use Rattle.std.proofs.Common.{◌≡◌, ◌≢◌, ◌==◌, ℕ, ℤ, Bool, true, false, length, List, [], codes, sym, ap, ◌∙◌, refl, arith}
 use Rattle.std.specs.Fmt.{decimal, signed_decimal}
 use Rattle.fs_names.specs.declared.settings.Settings.{Settings}
 use Rattle.fs_names.specs.declared.settings.Mode.{Mode}
 use Rattle.fs_names.specs.declared.settings.Mode.TheVariants.{WriteAhead, Parallel}
 use Rattle.store_files.specs.Lines.{NoNewline, line, IsLine, NoLine}
 use Rattle.store_files.specs.Texts.{four_lines, settings_text, mode_word, InLimits, IsWithin, IsMerge}
+use Rattle.store_files.specs.Stores.{IsUsable}
 use Rattle.store_files.proofs.Lines.{one_line, clear_by}
 use Rattle.store_files.proofs.Decimals.{decimal_clear, signed_clear}
 
@@ -93,10 +94,22 @@ module _ (text m s l d : List ℕ) (cm : NoNewline m) (cs : NoNewline s) (cl : N
   pub all_read : (set : Settings) → IsMerge set.merge × (m ≡ signed_decimal set.merge) → IsWithin 100 set.split × (s ≡ decimal set.split)
       → IsWithin 40 set.lfn × (l ≡ decimal set.lfn) → d ≡ mode_word set.mode → InLimits set × (text ≡ settings_text set)
   unfolding settings_text
-  all_read set a b c e =
-      (record { merge = a.0; split = b.0; lfn = c.0 },
-      is ∙ ap (λ x. four_lines x s l d) a.1 ∙ ap (λ x. four_lines (signed_decimal set.merge) x l d) b.1
-      ∙ ap (λ x. four_lines (signed_decimal set.merge) (decimal set.split) x d) c.1 ∙ ap (λ x. four_lines (signed_decimal set.merge) (decimal set.split) (decimal set.lfn) x) e)
+  all_read set a b c e = (
+    record { merge = a.0; split = b.0; lfn = c.0 },
+    is ∙ ap (λ x. four_lines x s l d) a.1 ∙ ap (λ x. four_lines (signed_decimal set.merge) x l d) b.1
+        ∙ ap (λ x. four_lines (signed_decimal set.merge) (decimal set.split) x d) c.1 ∙ ap (λ x. four_lines (signed_decimal set.merge) (decimal set.split) (decimal set.lfn) x) e,
+  )
 
 pub some_left : (rest : List ℕ) (r : Bool) → r ≡ (length rest == 0) → r ≡ false → rest ≢ []
 some_left rest r is other e = let z : false ≡ true = sym other ∙ is ∙ ap (λ l. length l == 0) e in cc
+
+mode_is : (a b : Settings) → settings_text a ≡ settings_text b → mode_word a.mode ≡ mode_word b.mode
+unfolding settings_text
+mode_is a b e =
+    (same_as (settings_text a) (signed_decimal a.merge) (decimal a.split) (decimal a.lfn) (mode_word a.mode) (signed_clear a.merge) (decimal_clear a.split) (decimal_clear a.lfn) (mode_clear a.mode) refl b e).3
+
+-- a text of the other mode spells no settings that may be used
+pub not_ahead : (text : List ℕ) (a : Settings) → text ≡ settings_text a → a.mode ≡ Parallel → (b : Settings) → IsUsable b → text ≡ settings_text b → ⊥
+not_ahead text a is other b fits is2 =
+    let same : length (mode_word Parallel) ≡ length (mode_word WriteAhead) = ap (λ m. length (mode_word m)) (sym other) ∙ ap length (mode_is a b (sym is ∙ is2)) ∙ ap (λ m. length (mode_word m)) fits.mode in
+    omega (arith, same)

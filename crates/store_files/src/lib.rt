@@ -1,11 +1,16 @@
 //! The small files by which a directory is known as a store: its version, its identity and its settings.
 #![tactic(auto)]
 
+mod fault;
 mod line;
+mod paths;
+mod reading;
 mod settings;
 mod texts;
 mod values;
 
+pub use fault::StoreFault;
+pub use reading::{Identity, read_store};
 pub use settings::{settings_of, settings_text};
 pub use texts::{fsid_of, fsid_text, version_of, version_text};
 

@@ -1,5 +1,5 @@
 // The texts of a version and of an identity.
-ghost use Rattle.std.specs.Prelude.{◌≡◌, ◌≢◌, ◌<◌, ◌^◌, ◌++◌, ◌∷◌, [], ℕ, List, IfOk, IfSome, IfNone, Some, MatchOption};
+ghost use Rattle.std.specs.Prelude.{◌≡◌, ◌≢◌, ◌<◌, ◌^◌, ◌++◌, ◌∷◌, [], ℕ, List, All, IfOk, IfSome, IfNone, Some, MatchOption};
 ghost use Rattle.store_files.specs.Texts.{version_text, fsid_text, IsFsid};
 
 use crate::values::number;
@@ -51,14 +51,25 @@ fn digits_fsid(text: &[u8]) -> Option<[u8; 16]>
     Some(bytes)
 }
 
+fn are_bytes(bytes: &[u8])
+    ensures { All (λ b. b < 256) bytes.now }
+{}
+
+/// An identity has 16 bytes.
+pub(crate) fn is_fsid(fsid: &[u8; 16])
+    ensures { IsFsid fsid.now }
+{
+    are_bytes(fsid.as_slice());
+}
+
 /// The identity that a text spells.
 pub fn fsid_of(alloc: Global, text: &[u8]) -> Result<Option<[u8; 16]>, AllocError>
-    ensures some { IfOk result (λ o. IfSome o (λ fsid. text.now ≡ fsid_text fsid)) }
-    ensures none { IfOk result (λ o. IfNone o ((fsid : List ℕ) → IsFsid fsid → text.now ≢ fsid_text fsid)) }
+    ensures { IfOk result (λ o. MatchOption o ((fsid : List ℕ) → IsFsid fsid → text.now ≢ fsid_text fsid) (λ fsid. IsFsid fsid × (text.now ≡ fsid_text fsid))) }
 {
     let Some(fsid) = digits_fsid(text) else {
         return Ok(None);
     };
+    is_fsid(&fsid);
     if fsid_text(alloc, &fsid)?.as_slice() == text {
         Ok(Some(fsid))
     } else {
