@@ -4,3 +4,4 @@ pub mod Fsids
 pub mod Spelled
 pub mod Shorts
 pub mod Spelling
+pub mod Adding

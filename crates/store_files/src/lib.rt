@@ -6,12 +6,14 @@ mod line;
 mod paths;
 mod reading;
 mod settings;
+mod steps;
 mod texts;
 mod values;
 
 pub use fault::StoreFault;
 pub use reading::{Identity, read_store};
 pub use settings::{settings_of, settings_text};
+pub use steps::{add_dir, add_file};
 pub use texts::{fsid_of, fsid_text, version_of, version_text};
 
 #[cfg(test)]
