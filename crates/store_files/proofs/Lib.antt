@@ -5,3 +5,5 @@ pub mod Spelled
 pub mod Shorts
 pub mod Spelling
 pub mod Adding
+pub mod Built
+pub mod Dirs

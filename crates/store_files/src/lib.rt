@@ -3,6 +3,7 @@
 
 mod fault;
 mod line;
+mod making;
 mod paths;
 mod reading;
 mod settings;
@@ -11,6 +12,7 @@ mod texts;
 mod values;
 
 pub use fault::StoreFault;
+pub use making::make_dirs;
 pub use reading::{Identity, read_store};
 pub use settings::{settings_of, settings_text};
 pub use steps::{add_dir, add_file};
