@@ -1,5 +1,5 @@
 -- What was made so far, one after another.
-use Rattle.std.proofs.Common.{◌≡◌, ◌≢◌, ℕ, ◌+◌, ◌*◌, Bool, true, not, ◌&&◌, ◌==◌, List, [], ◌∷◌, ◌++◌, get_or, refl, sym, ◌∙◌, ap, Option, Some, None, arith}
+use Rattle.std.proofs.Common.{◌≡◌, ◌≢◌, ◌⊎◌, inl, inr, ℕ, ◌+◌, ◌*◌, Bool, true, not, ◌&&◌, ◌==◌, List, [], ◌∷◌, ◌++◌, get_or, refl, sym, ◌∙◌, ap, Option, Some, None, arith}
 use Rattle.std.proofs.lemmas.Bool.{and_parts}
 use Rattle.std.proofs.lemmas.Bool.Decides.{nat_tests}
 use Rattle.tree_api.specs.Tree.{Path, Version, Tree, IsDir, HasParent, look, held}
@@ -20,8 +20,28 @@ fresh_for p (x ∷ xs) = not (code p == code x.0) && fresh_for p xs
 codes_apart : (a b : ℕ) → not (a == b) ≡ true → a ≢ b
 codes_apart a b h = grind (arith, nat_tests)
 
-fresh_first : (p : Path) (x : Path × Version) (xs : List (Path × Version)) → fresh_for p (x ∷ xs) ≡ true → (p ≢ x.0) × (fresh_for p xs ≡ true)
+pub fresh_first : (p : Path) (x : Path × Version) (xs : List (Path × Version)) → fresh_for p (x ∷ xs) ≡ true → (p ≢ x.0) × (fresh_for p xs ≡ true)
 fresh_first p x xs h = let parts = and_parts (not (code p == code x.0)) (fresh_for p xs) h in (λ e. codes_apart (code p) (code x.0) parts.0 (ap code e), parts.1)
+
+-- a path with another code than each of these
+abbrev pub differs : Path → List Path → Bool
+differs q [] = true
+differs q (p ∷ ps) = not (code q == code p) && differs q ps
+
+pub off_by : (q : Path) (ps : List Path) → differs q ps ≡ true → Off ps q
+off_by q [] h = tt
+off_by q (p ∷ ps) h =
+    let parts = and_parts (not (code q == code p)) (differs q ps) h in
+    (λ e. codes_apart (code q) (code p) parts.0 (ap code e), off_by q ps parts.1)
+
+abbrev pub Holds : List Path → Path → Type 0
+Holds [] p = ⊥
+Holds (x ∷ xs) p = (p ≡ x) ⊎ Holds xs p
+
+pub in_of : (ps : List Path) (p : Path) → Holds ps p → (q : Path) → Off ps q → q ≢ p
+in_of [] p h q off = absurd h
+in_of (x ∷ xs) p (inl e) q off = λ same. off.0 (same ∙ e)
+in_of (x ∷ xs) p (inr h) q off = in_of xs p h q off.1
 
 pub off_first : (p : Path) (ps : List Path) (q : Path) → Off (p ∷ ps) q → q ≢ p
 off_first p ps q off = off.0
@@ -72,7 +92,7 @@ module _ (ps : List Path) where
       by (Some n) at =
           ap (λ (x : Option ℕ). held x b.node) (is.others q not ∙ at) ∙ ap Some (is.nodes q n not at) ∙ sym (ap (λ (x : Option ℕ). held x a.node) at) ∙ there
 
-  all_kept : (p : Path) (a b : Tree) → Beside p a b → (xs : List (Path × Version)) → fresh_for p xs ≡ true → AllIn xs a → AllIn xs b
+  pub all_kept : (p : Path) (a b : Tree) → Beside p a b → (xs : List (Path × Version)) → fresh_for p xs ≡ true → AllIn xs a → AllIn xs b
   all_kept p a b is [] fresh all = tt
   all_kept p a b is (x ∷ xs) fresh all =
       let parts = fresh_first p x xs fresh in

@@ -7,3 +7,4 @@ pub mod Spelling
 pub mod Adding
 pub mod Built
 pub mod Dirs
+pub mod Files

@@ -1,8 +1,10 @@
 -- What one call that makes a file or a directory of a store does.
-use Rattle.std.specs.Prelude.{◌≡◌, ◌≢◌, ℕ, List, [], ◌∷◌, Some, None}
-use Rattle.tree_api.specs.Tree.{Path, Version, Tree, IsDir, current, new_dir, look}
-use Rattle.commit_point.specs.Number.{aside}
-use Rattle.store_files.specs.Stores.{omap, trash}
+use Rattle.std.specs.Prelude.{◌≡◌, ◌≢◌, ◌⊎◌, ℕ, List, [], ◌∷◌, ◌++◌, codes, Some, None}
+use Rattle.fs_names.specs.declared.settings.Settings.{Settings}
+use Rattle.store_files.specs.Texts.{version_text, fsid_text, settings_text}
+use Rattle.tree_api.specs.Tree.{Path, Version, Tree, IsDir, current, new_dir, file_of, look}
+use Rattle.commit_point.specs.Number.{aside, number_path, spelled}
+use Rattle.store_files.specs.Stores.{version_path, fsid_path, settings_path, omap, trash}
 use Rattle.tree_api.specs.Disk.{Disk, Everywhere}
 
 -- names other than p's stay, and so does each node that has such a name
@@ -42,3 +44,22 @@ dir_paths = current ∷ omap ∷ aside ∷ trash ∷ []
 
 abbrev pub dir_items : List (Path × Version)
 dir_items = (trash, new_dir) ∷ (aside, new_dir) ∷ (omap, new_dir) ∷ (current, new_dir) ∷ []
+
+-- the first key file
+abbrev pub key_path : Path
+key_path = omap ++ codes "keys.0000000000000000" ∷ []
+
+-- all but the version
+abbrev pub rest_paths : List Path
+rest_paths = current ∷ omap ∷ aside ∷ trash ∷ number_path ∷ key_path ∷ fsid_path ∷ settings_path ∷ []
+
+abbrev pub rest_items : List ℕ → Settings → List (Path × Version)
+rest_items fsid set = (settings_path, file_of (settings_text set)) ∷ (fsid_path, file_of (fsid_text fsid)) ∷ (key_path, file_of []) ∷ (number_path, file_of (spelled 0)) ∷ dir_items
+
+-- and the version
+abbrev pub store_items : List ℕ → Settings → List (Path × Version)
+store_items fsid set = (version_path, file_of (version_text 1)) ∷ rest_items fsid set
+
+-- an image is no store yet, or has all but perhaps the version
+abbrev pub Unfinished : List ℕ → Settings → Tree → Type 0
+Unfinished fsid set t = (t.at version_path ≡ None) ⊎ AllIn (rest_items fsid set) t

@@ -12,7 +12,7 @@ mod texts;
 mod values;
 
 pub use fault::StoreFault;
-pub use making::make_dirs;
+pub use making::{make_dirs, make_files};
 pub use reading::{Identity, read_store};
 pub use settings::{settings_of, settings_text};
 pub use steps::{add_dir, add_file};

@@ -1,7 +1,8 @@
 // Where a store's files and directories stand.
 ghost use Rattle.std.specs.Prelude.{◌≡◌, IfOk};
 ghost use Rattle.tree_api.specs.Tree.{current};
-ghost use Rattle.commit_point.specs.Number.{aside};
+ghost use Rattle.commit_point.specs.Number.{aside, number_path};
+ghost use Rattle.store_files.specs.Steps.{key_path};
 ghost use Rattle.store_files.specs.Stores.{version_path, fsid_path, settings_path, omap, trash};
 
 use std::alloc::{AllocError, Global};
@@ -47,4 +48,16 @@ pub(crate) fn trash(alloc: Global) -> Result<TreePath, AllocError>
     ensures { IfOk result (λ path. path ≡ trash) }
 {
     current(alloc)?.join(b"trash")
+}
+
+pub(crate) fn number_path(alloc: Global) -> Result<TreePath, AllocError>
+    ensures { IfOk result (λ path. path ≡ number_path) }
+{
+    current(alloc)?.join(b"commit_op_seq")
+}
+
+pub(crate) fn key_path(alloc: Global) -> Result<TreePath, AllocError>
+    ensures { IfOk result (λ path. path ≡ key_path) }
+{
+    omap(alloc)?.join(b"keys.0000000000000000")
 }

@@ -1,5 +1,6 @@
 // The texts of a version and of an identity.
 ghost use Rattle.std.specs.Prelude.{◌≡◌, ◌≢◌, ◌<◌, ◌^◌, ◌++◌, ◌∷◌, [], ℕ, List, All, IfOk, IfSome, IfNone, Some, MatchOption};
+ghost use Rattle.commit_point.specs.Number.{spelled};
 ghost use Rattle.store_files.specs.Texts.{version_text, fsid_text, IsFsid};
 
 use crate::values::number;
@@ -11,6 +12,16 @@ pub fn version_text(alloc: Global, version: u64) -> Result<Vec<u8>, AllocError>
 {
     let text = format!(in alloc; "{version}\n")?;
     Vec::from_slice(alloc, text.as_bytes())
+}
+
+/// The text of the number 0.
+pub(crate) fn zero_text(alloc: Global) -> Result<Vec<u8>, AllocError>
+    ensures { IfOk result (λ text. text.items ≡ spelled 0) }
+{
+    let digits = hex::encode(alloc, 0_u64.to_be_bytes().as_slice())?;
+    let mut text = Vec::from_slice(alloc, digits.as_bytes())?;
+    text.push(b'\n')?;
+    Ok(text)
 }
 
 fn before_newline(text: &[u8]) -> Option<&[u8]>
