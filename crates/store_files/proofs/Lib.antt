@@ -8,3 +8,4 @@ pub mod Adding
 pub mod Built
 pub mod Dirs
 pub mod Files
+pub mod Whole

@@ -3,3 +3,4 @@ pub mod Texts
 pub mod Faults
 pub mod Stores
 pub mod Steps
+pub mod Laws

@@ -2,6 +2,7 @@
 #![tactic(auto)]
 
 mod fault;
+mod laws;
 mod line;
 mod making;
 mod paths;
@@ -12,6 +13,7 @@ mod texts;
 mod values;
 
 pub use fault::StoreFault;
+pub use laws::made_law;
 pub use making::{make_dirs, make_files};
 pub use reading::{Identity, read_store};
 pub use settings::{settings_of, settings_text};
