@@ -59,14 +59,14 @@ module _ (ps : List Path) where
   pub among_same : (t : Tree) → Among ps t t
   among_same t = record { snaps = refl; others = λ q off. refl; nodes = λ q m off here. refl }
 
-  among_joins : (a b c : Tree) → Among ps a b → Among ps b c → Among ps a c
+  pub among_joins : (a b c : Tree) → Among ps a b → Among ps b c → Among ps a c
   among_joins a b c one two = record {
     snaps = two.snaps ∙ one.snaps;
     others = λ q off. two.others q off ∙ one.others q off;
     nodes = λ q m off here. two.nodes q m off (one.others q off ∙ here) ∙ one.nodes q m off here;
   }
 
-  among_of : (p : Path) → ((q : Path) → Off ps q → q ≢ p) → (a b : Tree) → Beside p a b → Among ps a b
+  pub among_of : (p : Path) → ((q : Path) → Off ps q → q ≢ p) → (a b : Tree) → Beside p a b → Among ps a b
   among_of p in_ps a b is = record {
     snaps = is.snaps;
     others = λ q off. is.others q (in_ps q off);

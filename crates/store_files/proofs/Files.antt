@@ -3,12 +3,12 @@ use Rattle.std.proofs.Common.{◌≡◌, ◌≢◌, inl, inr, ℕ, codes, List, 
 use Rattle.fs_names.specs.declared.settings.Settings.{Settings}
 use Rattle.tree_api.specs.Tree.{Path, Version, Tree, HasParent, current, new_dir, file_of}
 use Rattle.tree_api.specs.Disk.{Disk, Sound, Everywhere, Keeps, Leaves, From}
-use Rattle.tree_api.proofs.Moments.{now_from, started, joined, weaker, leaves_wider}
+use Rattle.tree_api.proofs.Moments.{now_from, started, joined, weaker, leaves_wider, leaves_run}
 use Rattle.commit_point.specs.Number.{aside, number_path, spelled}
 use Rattle.store_files.specs.Texts.{version_text}
 use Rattle.store_files.specs.Stores.{version_path, fsid_path, settings_path, omap, trash}
-use Rattle.store_files.specs.Steps.{Beside, Stands, Off, Among, AllIn, IsBare, dir_paths, dir_items, key_path, rest_paths, rest_items, store_items, Unfinished}
-use Rattle.store_files.proofs.Built.{Built, all_kept, off_by, in_of, fresh_first, fresh_for, in_first, in_rest, below}
+use Rattle.store_files.specs.Steps.{Beside, Stands, Off, Among, AllIn, IsBare, dir_paths, dir_items, key_path, rest_paths, rest_items, store_items, store_paths, Unfinished}
+use Rattle.store_files.proofs.Built.{off_first, off_rest, among_same, among_joins, among_of, Built, all_kept, off_by, in_of, fresh_first, fresh_for, in_first, in_rest, below}
 
 off_dirs : (q : Path) → Off rest_paths q → Off dir_paths q
 off_dirs q off = (
@@ -114,3 +114,22 @@ pub version_stands : (fsid : List ℕ) (set : Settings) (d0 d1 d2 : Disk) → Bu
 version_stands fsid set d0 d1 d2 built beside s2 stands = λ c may.
     let from = now_from (From d1 (Beside version_path)) d1 d2 s2 beside.any_moment c may in
     (stands.here c may, all_kept rest_paths version_path from.0 c from.2 (rest_items fsid set) refl (built.stand from.0 from.1))
+
+-- names other than a store's stay
+wide : (a b : Tree) → Among rest_paths a b → Among store_paths a b
+wide a b is = record {
+  snaps = is.snaps;
+  others = λ q off. is.others q (off_rest version_path rest_paths q off);
+  nodes = λ q m off here. is.nodes q m (off_rest version_path rest_paths q off) here;
+}
+
+pub store_leaves : (d0 d1 : Disk) → Leaves (Among rest_paths) d0 d1 → Leaves (Among store_paths) d0 d1
+store_leaves d0 d1 leaves = leaves_wider (Among rest_paths) (Among store_paths) wide d0 d1 leaves
+
+pub store_leaves_dirs : (d0 d1 : Disk) → Leaves (Among dir_paths) d0 d1 → Leaves (Among store_paths) d0 d1
+store_leaves_dirs d0 d1 leaves = store_leaves d0 d1 (leaves_wider (Among dir_paths) (Among rest_paths) wider d0 d1 leaves)
+
+pub store_leaves_all : (d0 d1 d2 : Disk) → Sound d1 → Leaves (Among rest_paths) d0 d1 → Leaves (Beside version_path) d1 d2 → Leaves (Among store_paths) d0 d2
+store_leaves_all d0 d1 d2 s1 leaves beside =
+    leaves_run (Among store_paths) (among_same store_paths) (among_joins store_paths) d0 d1 d2 s1 (store_leaves d0 d1 leaves)
+    (leaves_wider (Beside version_path) (Among store_paths) (among_of store_paths version_path (λ q off. off_first version_path rest_paths q off)) d1 d2 beside)

@@ -63,3 +63,7 @@ store_items fsid set = (version_path, file_of (version_text 1)) ∷ rest_items f
 -- an image is no store yet, or has all but perhaps the version
 abbrev pub Unfinished : List ℕ → Settings → Tree → Type 0
 Unfinished fsid set t = (t.at version_path ≡ None) ⊎ AllIn (rest_items fsid set) t
+
+-- all paths of a new store
+abbrev pub store_paths : List Path
+store_paths = version_path ∷ rest_paths

@@ -2,7 +2,7 @@
 ghost use Rattle.std.specs.Prelude.{◌≡◌, OnOk, IsErrOf};
 ghost use Rattle.tree_api.specs.Counts.{Counts};
 ghost use Rattle.tree_api.specs.Disk.{Everywhere, Keeps, Leaves};
-ghost use Rattle.store_files.specs.Steps.{Among, AllIn, IsBare, dir_paths, dir_items, store_items, Unfinished};
+ghost use Rattle.store_files.specs.Steps.{Among, AllIn, IsBare, dir_paths, dir_items, store_items, store_paths, Unfinished};
 
 use crate::paths::{
     aside, current, fsid_path, key_path, number_path, omap, settings_path, trash, version_path,
@@ -44,6 +44,7 @@ pub fn make_files<T: FileTree>(
     requires bare { T.tells tree.old → IsBare (T.disk tree.old).tree }
     ensures told { T.tells tree.new → T.tells tree.old }
     ensures counts { Counts (IsErrOf result TreeError.Refused) 0 0 (T.disk tree.old) (T.disk tree.new) }
+    ensures leaves { T.tells tree.new → Leaves (Among store_paths) (T.disk tree.old) (T.disk tree.new) }
     ensures each { T.tells tree.new → Everywhere (T.disk tree.old) IsBare → Keeps (Unfinished fsid.now set.now) (T.disk tree.old) (T.disk tree.new) }
     ensures stand { T.tells tree.new → OnOk result (Everywhere (T.disk tree.new) (AllIn (store_items fsid.now set.now))) }
 {
