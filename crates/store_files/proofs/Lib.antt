@@ -1,0 +1,11 @@
+pub mod Lines
+pub mod Decimals
+pub mod Fsids
+pub mod Spelled
+pub mod Shorts
+pub mod Spelling
+pub mod Adding
+pub mod Built
+pub mod Dirs
+pub mod Files
+pub mod Whole

@@ -1,0 +1,11 @@
+-- What the files that were made spell.
+use Rattle.std.specs.Prelude.{List, ℕ}
+use Rattle.fs_names.specs.declared.settings.Settings.{Settings}
+use Rattle.tree_api.specs.Tree.{Tree}
+use Rattle.commit_point.specs.Number.{HasNumber}
+use Rattle.store_files.specs.Texts.{IsFsid}
+use Rattle.store_files.specs.Stores.{IsUsable, IsStore}
+use Rattle.store_files.specs.Steps.{AllIn, store_items}
+
+abbrev pub MadeIsStore : Type 0
+MadeIsStore = (fsid : List ℕ) (set : Settings) (t : Tree) → IsFsid fsid → IsUsable set → AllIn (store_items fsid set) t → IsStore t fsid set × HasNumber t 0

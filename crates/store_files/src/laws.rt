@@ -1,0 +1,7 @@
+// What a tree with all files of a store is.
+ghost use Rattle.store_files.specs.Laws.{MadeIsStore};
+
+/// A tree with all that `make_files` makes is a store with that identity and those settings.
+pub fn made_law()
+    ensures { MadeIsStore }
+{}

@@ -1,0 +1,24 @@
+//! The small files by which a directory is known as a store: its version, its identity and its settings.
+#![tactic(auto)]
+
+mod fault;
+mod laws;
+mod line;
+mod making;
+mod paths;
+mod reading;
+mod settings;
+mod steps;
+mod texts;
+mod values;
+
+pub use fault::StoreFault;
+pub use laws::made_law;
+pub use making::{make_dirs, make_files};
+pub use reading::{Identity, read_store};
+pub use settings::{settings_of, settings_text};
+pub use steps::{add_dir, add_file};
+pub use texts::{fsid_of, fsid_text, version_of, version_text};
+
+#[cfg(test)]
+mod tests;
