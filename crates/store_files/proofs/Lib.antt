@@ -9,3 +9,5 @@ pub mod Built
 pub mod Dirs
 pub mod Files
 pub mod Whole
+pub mod News
+pub mod Looking
