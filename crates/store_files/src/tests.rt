@@ -14,9 +14,7 @@ const SETTINGS: Settings = Settings {
     mode: Mode::WriteAhead,
 };
 
-const FSID: [u8; 16] = [
-    0, 1, 2, 3, 4, 5, 6, 7, 8, 9, 10, 11, 12, 13, 14, 255,
-];
+const FSID: [u8; 16] = [0, 1, 2, 3, 4, 5, 6, 7, 8, 9, 10, 11, 12, 13, 14, 255];
 
 fn empty(alloc: Global) -> Result<MemoryTree, AllocError> {
     MemoryTree::new(alloc, Vec::new(alloc))
