@@ -1,6 +1,6 @@
 -- What a listing of the root and the numbers of the snapshots tell.
-use Rattle.std.proofs.Common.{◌≡◌, ◌≢◌, ℕ, List, [], ◌∷◌, ◌++◌, ◌<◌, length, true, false, refl, sym, ◌∙◌, ap, subst, Option, Some, None, arith, append_assoc}
-use Rattle.std.specs.Prelude.{Contains, IsSome}
+use Rattle.std.proofs.Common.{◌≡◌, ◌≢◌, ℕ, List, [], ◌∷◌, ◌++◌, length, refl, sym, ◌∙◌, ap, subst, Option, Some, None, arith, append_assoc}
+use Rattle.std.specs.Prelude.{IsSome}
 use Rattle.tree_api.specs.Answer.{IsListing, AreSnapshots, kind_of}
 use Rattle.tree_api.specs.declared.tree.Entry.{Entry}
 use Rattle.tree_api.specs.Tree.{Path, Tree, Content, IsDir}

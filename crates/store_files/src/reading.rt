@@ -1,5 +1,5 @@
 // What a tree spells of a store.
-ghost use Rattle.std.specs.Prelude.{◌≡◌, ◌≢◌, ◌<◌, MatchOption, MatchBool, IfOk, IsErrOf};
+ghost use Rattle.std.specs.Prelude.{◌≡◌, ◌<◌, MatchBool, IfOk, IsErrOf};
 ghost use Rattle.fs_names.specs.declared.settings.Settings.{Settings};
 ghost use Rattle.tree_api.specs.Tree.{IsDir};
 ghost use Rattle.tree_api.specs.Counts.{Counts};

@@ -1,5 +1,5 @@
 // The texts of a version and of an identity.
-ghost use Rattle.std.specs.Prelude.{◌≡◌, ◌≢◌, ◌<◌, ◌^◌, ◌++◌, ◌∷◌, [], ℕ, List, All, IfOk, IfSome, IfNone, Some, MatchOption};
+ghost use Rattle.std.specs.Prelude.{◌≡◌, ◌≢◌, ◌<◌, ◌^◌, ◌++◌, ◌∷◌, [], ℕ, List, All, IfOk, Some, MatchOption};
 ghost use Rattle.commit_point.specs.Number.{spelled};
 ghost use Rattle.store_files.specs.Texts.{version_text, fsid_text, IsFsid, IsSpelled};
 
