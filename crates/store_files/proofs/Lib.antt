@@ -9,3 +9,4 @@ pub mod Built
 pub mod Dirs
 pub mod Files
 pub mod Whole
+pub mod Looking

@@ -4,3 +4,4 @@ pub mod Faults
 pub mod Stores
 pub mod Steps
 pub mod Laws
+pub mod News

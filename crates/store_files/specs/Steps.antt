@@ -54,7 +54,9 @@ abbrev pub rest_paths : List Path
 rest_paths = current ∷ omap ∷ aside ∷ trash ∷ number_path ∷ key_path ∷ fsid_path ∷ settings_path ∷ []
 
 abbrev pub rest_items : List ℕ → Settings → List (Path × Version)
-rest_items fsid set = (settings_path, file_of (settings_text set)) ∷ (fsid_path, file_of (fsid_text fsid)) ∷ (key_path, file_of []) ∷ (number_path, file_of (spelled 0)) ∷ dir_items
+rest_items fsid set =
+    (settings_path, file_of (settings_text set)) ∷ (fsid_path, file_of (fsid_text fsid))
+    ∷ (key_path, file_of []) ∷ (number_path, file_of (spelled 0)) ∷ dir_items
 
 -- and the version
 abbrev pub store_items : List ℕ → Settings → List (Path × Version)

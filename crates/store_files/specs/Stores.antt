@@ -1,5 +1,6 @@
 -- What a tree spells of a store, and what reading it answers.
-use Rattle.std.specs.Prelude.{◌≡◌, ◌≢◌, ◌⊎◌, ◌<◌, ◌≤◌, ◌^◌, ℕ, codes, ◌++◌, ◌∷◌, [], List, length, false, Option, Some, MatchOption, Result, Ok, Err}
+use Rattle.std.specs.Prelude.{◌≡◌, ◌≢◌, ◌⊎◌, ◌<◌, ◌≤◌, ◌^◌, ℕ, codes, ◌++◌, ◌∷◌, [], List, length, false, Option, Some, MatchOption, Result, Ok, Err, Vec}
+use Rattle.std.specs.declared.alloc.Global.{Global}
 use Rattle.tree_api.specs.Tree.{Path, Version, Tree, IsDir, current, look}
 use Rattle.fs_names.specs.declared.settings.Settings.{Settings}
 use Rattle.fs_names.specs.declared.settings.Mode.TheVariants.{WriteAhead}
@@ -31,6 +32,10 @@ HasText t p text = (v : Version) × (look t p ≡ Some v) × (v.dir ≡ false) �
 -- none with a text that is short
 abbrev pub NoShortText : Tree → Path → Type 0
 NoShortText t p = (text : List ℕ) → length text ≤ 64 → HasText t p text → ⊥
+
+-- the text at p, or none where none is short
+abbrev pub TellsText : Tree → Path → Option (Vec ℕ Global) → Type 0
+TellsText t p o = MatchOption o (NoShortText t p) (λ text. HasText t p text.items)
 
 -- the file at p spells x, which a store may have
 abbrev pub Spells : {A : Type 0} → (A → List ℕ) → (A → Type 0) → Path → Tree → A → Type 0

@@ -1,11 +1,15 @@
 -- How a store's version, its identity and its settings are spelled, and which settings a store may have.
-use Rattle.std.specs.Prelude.{◌≡◌, ◌<◌, ◌≤◌, ℕ, ℤ, pos, negsuc, suc, codes, ◌++◌, ◌∷◌, [], List, length, All}
+use Rattle.std.specs.Prelude.{◌≡◌, ◌≢◌, ◌<◌, ◌≤◌, ℕ, ℤ, pos, negsuc, suc, codes, ◌++◌, ◌∷◌, [], List, length, All, Option, MatchOption}
 use Rattle.std.specs.Fmt.{decimal, signed_decimal}
 use Rattle.hex.specs.Hex.{encode_lower}
 use Rattle.fs_names.specs.declared.settings.Settings.{Settings}
 use Rattle.fs_names.specs.declared.settings.Mode.{Mode}
 use Rattle.fs_names.specs.declared.settings.Mode.TheVariants.{WriteAhead, Parallel}
 use Rattle.store_files.specs.Lines.{line}
+
+-- what a text spells, or none where it spells nothing that fits
+abbrev pub IsSpelled : {A : Type 0} → (A → List ℕ) → (A → Type 0) → List ℕ → Option A → Type 0
+IsSpelled {A} spell fits text o = MatchOption o ((x : A) → fits x → text ≢ spell x) (λ x. fits x × (text ≡ spell x))
 
 -- a decimal number and a newline
 abbrev pub version_text : ℕ → List ℕ

@@ -42,3 +42,36 @@ impl From<TreeError> for StoreFault {
         }
     }
 }
+
+/// Why no store was made.
+#[derive(Clone, Copy, Debug, PartialEq, Eq)]
+pub enum MakeFault {
+    /// Something stands in the tree, or a snapshot is kept.
+    NotEmpty,
+    /// The tree has failed, and has counted a fault.
+    Tree,
+    Memory,
+}
+
+impl From<AllocError> for MakeFault {
+    ghost use Rattle.store_files.specs.declared.fault.MakeFault.TheVariants.{Memory};
+
+    ghost from_gives = { λ _ fault. fault ≡ Memory };
+
+    fn from(_: AllocError) -> MakeFault {
+        MakeFault::Memory
+    }
+}
+
+impl From<TreeError> for MakeFault {
+    ghost use Rattle.store_files.specs.Faults.{make_fault_of};
+
+    ghost from_gives = { λ error fault. fault ≡ make_fault_of error };
+
+    fn from(error: TreeError) -> MakeFault {
+        match error {
+            TreeError::Memory => MakeFault::Memory,
+            TreeError::Refused => MakeFault::Tree,
+        }
+    }
+}

@@ -15,7 +15,7 @@ use std::alloc::Global;
 use tree_api::{FileTree, TreeError};
 
 /// Makes the directories of a store in a tree where nothing stands.
-pub fn make_dirs<T: FileTree>(alloc: Global, tree: &mut T) -> Result<(), TreeError>
+pub(crate) fn make_dirs<T: FileTree>(alloc: Global, tree: &mut T) -> Result<(), TreeError>
     requires bare { T.tells tree.old → IsBare (T.disk tree.old).tree }
     ensures told { T.tells tree.new → T.tells tree.old }
     ensures counts { Counts (IsErrOf result TreeError.Refused) 0 0 (T.disk tree.old) (T.disk tree.new) }
@@ -35,7 +35,7 @@ pub fn make_dirs<T: FileTree>(alloc: Global, tree: &mut T) -> Result<(), TreeErr
 
 /// Makes a store's files in a tree where nothing stands. The version is written last, so that at no moment a crash leaves
 /// an image with a version that lacks anything else.
-pub fn make_files<T: FileTree>(
+pub(crate) fn make_files<T: FileTree>(
     alloc: Global,
     tree: &mut T,
     fsid: &[u8; 16],

@@ -1,11 +1,11 @@
 // What a tree spells of a store.
-ghost use Rattle.std.specs.Prelude.{◌≡◌, ◌≢◌, ◌<◌, MatchOption, MatchBool, IfOk, IsErrOf};
+ghost use Rattle.std.specs.Prelude.{◌≡◌, ◌<◌, MatchBool, IfOk, IsErrOf};
 ghost use Rattle.fs_names.specs.declared.settings.Settings.{Settings};
 ghost use Rattle.tree_api.specs.Tree.{IsDir};
 ghost use Rattle.tree_api.specs.Counts.{Counts};
 ghost use Rattle.tree_api.specs.Disk.{Still};
-ghost use Rattle.store_files.specs.Texts.{settings_text};
-ghost use Rattle.store_files.specs.Stores.{HasText, NoShortText, Reads, IsUsable, HasVersion, HasFsid, HasSettings, StoreDirs, Told};
+ghost use Rattle.store_files.specs.Texts.{settings_text, IsSpelled};
+ghost use Rattle.store_files.specs.Stores.{TellsText, Reads, IsUsable, HasVersion, HasFsid, HasSettings, StoreDirs, Told};
 
 use crate::fault::StoreFault;
 use crate::paths::{aside, current, fsid_path, omap, settings_path, trash, version_path};
@@ -31,7 +31,7 @@ fn short_text<T: FileTree>(
     ensures told { T.tells tree.new → T.tells tree.old }
     ensures still { T.tells tree.new → Still (T.disk tree.old) (T.disk tree.new) }
     ensures counts { Counts (IsErrOf result TreeError.Refused) 1 0 (T.disk tree.old) (T.disk tree.new) }
-    ensures text { T.tells tree.new → IfOk result (λ o. MatchOption o (NoShortText (T.disk tree.old).tree path.now) (λ text. HasText (T.disk tree.old).tree path.now text.items)) }
+    ensures text { T.tells tree.new → IfOk result (TellsText (T.disk tree.old).tree path.now) }
 {
     let Some(stat) = tree.stat(path)? else {
         return Ok(None);
@@ -75,7 +75,7 @@ fn read_fsid<T: FileTree>(alloc: Global, tree: &mut T) -> Result<Option<[u8; 16]
 
 // Settings of the mode that is built.
 fn usable_settings(text: &[u8]) -> Option<Settings>
-    ensures { MatchOption result ((s : Settings) → IsUsable s → text.now ≢ settings_text s) (λ s. IsUsable s × (text.now ≡ settings_text s)) }
+    ensures { IsSpelled settings_text IsUsable text.now result }
 {
     let settings = settings_of(text)?;
     match settings.mode {

@@ -1,7 +1,7 @@
 // The text of settings.
 ghost use Rattle.std.specs.Prelude.{◌≡◌, ◌≢◌, List, ℕ, IfOk, MatchOption};
 ghost use Rattle.store_files.specs.Lines.{NoNewline};
-ghost use Rattle.store_files.specs.Texts.{InLimits, four_lines, settings_text, mode_word};
+ghost use Rattle.store_files.specs.Texts.{InLimits, IsSpelled, four_lines, settings_text, mode_word};
 ghost use Rattle.fs_names.specs.declared.settings.Settings.{Settings};
 
 use crate::line::line;
@@ -50,7 +50,7 @@ fn values(text: &[u8]) -> Option<Values<'_>>
 
 /// The settings that a text spells, where they keep the limits.
 pub fn settings_of(text: &[u8]) -> Option<Settings>
-    ensures { MatchOption result ((s : Settings) → InLimits s → text.now ≢ settings_text s) (λ s. InLimits s × (text.now ≡ settings_text s)) }
+    ensures { IsSpelled settings_text InLimits text.now result }
 {
     let (merge_text, split_text, lfn_text, mode_text) = values(text)?;
     let merge = merge(merge_text)?;

@@ -1,7 +1,7 @@
 // The texts of a version and of an identity.
-ghost use Rattle.std.specs.Prelude.{◌≡◌, ◌≢◌, ◌<◌, ◌^◌, ◌++◌, ◌∷◌, [], ℕ, List, All, IfOk, IfSome, IfNone, Some, MatchOption};
+ghost use Rattle.std.specs.Prelude.{◌≡◌, ◌≢◌, ◌<◌, ◌^◌, ◌++◌, ◌∷◌, [], ℕ, List, All, IfOk, Some, MatchOption};
 ghost use Rattle.commit_point.specs.Number.{spelled};
-ghost use Rattle.store_files.specs.Texts.{version_text, fsid_text, IsFsid};
+ghost use Rattle.store_files.specs.Texts.{version_text, fsid_text, IsFsid, IsSpelled};
 
 use crate::values::number;
 use std::alloc::{AllocError, Global};
@@ -32,7 +32,7 @@ fn before_newline(text: &[u8]) -> Option<&[u8]>
 
 /// The version that a text spells.
 pub fn version_of(text: &[u8]) -> Option<u64>
-    ensures { MatchOption result ((version : ℕ) → version < 2 ^ 64 → text.now ≢ version_text version) (λ version. (version < 2 ^ 64) × (text.now ≡ version_text version)) }
+    ensures { IsSpelled version_text (λ n. n < 2 ^ 64) text.now result }
 {
     number(before_newline(text)?)
 }
@@ -75,7 +75,7 @@ pub(crate) fn is_fsid(fsid: &[u8; 16])
 
 /// The identity that a text spells.
 pub fn fsid_of(alloc: Global, text: &[u8]) -> Result<Option<[u8; 16]>, AllocError>
-    ensures { IfOk result (λ o. MatchOption o ((fsid : List ℕ) → IsFsid fsid → text.now ≢ fsid_text fsid) (λ fsid. IsFsid fsid × (text.now ≡ fsid_text fsid))) }
+    ensures { IfOk result (IsSpelled fsid_text IsFsid text.now) }
 {
     let Some(fsid) = digits_fsid(text) else {
         return Ok(None);
