@@ -61,7 +61,9 @@ READINGS = {
     "attrs": lambda o: f"attrs {o}",
     "omap": lambda o: f"omap {o}",
 }
-PAGES = 2_000
+# how many of each reading: so many that the making of the objects is small beside them
+PAGES = 20_000
+READS = 200_000
 
 
 def transactions(operations):
@@ -120,8 +122,9 @@ def reading_times(folder, reading):
     times = []
     for size in SIZES:
         setup = fill(size, "write {o} 0 x5ac35ac3")
-        lines = [line(place(number * 7919 % size)) for number in range(PAGES)]
-        times.append(each(folder, setup, lines, PAGES))
+        count = PAGES if "page" in reading else READS
+        lines = [line(place(number * 7919 % size)) for number in range(count)]
+        times.append(each(folder, setup, lines, count))
     return times
 
 
