@@ -1,11 +1,13 @@
 -- Operations on one object, and what they make of its file. An operation more is a line of each.
-use Rattle.std.specs.Prelude.{Bool, true, false, Option, Some, None}
+use Rattle.std.specs.Prelude.{◌≡◌, Bool, true, false, Option, Some, None}
 use Rattle.fs_names.specs.Text.{oid_text}
 use Rattle.fs_model.specs.declared.op.Op.{Op}
 use Rattle.fs_model.specs.declared.op.Op.TheVariants.{Touch, Write, Zero, Truncate, Remove, SetAttrs, RmAttr, RmAttrs, Clone, CloneRange, MoveRename, OmapClear, OmapSet, OmapRemove, OmapRange}
-use Rattle.tree_api.specs.Tree.{Version, zeros}
+use Rattle.fs_names.specs.declared.coll.Coll.{Coll}
+use Rattle.fs_names.specs.declared.settings.Settings.{Settings}
+use Rattle.tree_api.specs.Tree.{Path, Version, Tree, IsFile, zeros}
 use Rattle.tree_stands.specs.Names.{Name}
-use Rattle.tree_stands.specs.Trees.{name_at}
+use Rattle.tree_stands.specs.Trees.{dir_of, name_at, ForObject}
 use Rattle.tree_stands.specs.Files.{touched_file, written_file, cut_file, attrs_file, attr_gone_file, attrs_gone_file, no_file}
 
 -- the object that an operation changes, where it changes one and no collection
@@ -31,6 +33,14 @@ file_after (SetAttrs c o pairs) x = attrs_file (oid_text o) pairs x
 file_after (RmAttr c o name) x = attr_gone_file (oid_text o) name x
 file_after (RmAttrs c o) x = attrs_gone_file (oid_text o) x
 file_after _ x = x
+
+-- the object's file is that, and all else that is shown stays
+abbrev pub IsEdited : Settings → Name → Op → Tree → Tree → Type 0
+IsEdited set n op t u = ForObject set n (λ x y. y ≡ file_after op x) t u
+
+-- a file stands in a collection's place
+abbrev pub IsFileFor : Coll → Tree → Path → Type 0
+IsFileFor c t p = (p ≡ dir_of c) × IsFile t p
 
 -- copies, moves and what concerns the omap are still to come
 abbrev pub is_built : Op → Bool

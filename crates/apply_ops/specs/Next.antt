@@ -1,5 +1,5 @@
 -- The next operation of a transaction, and the next transaction.
-use Rattle.std.specs.Prelude.{◌≡◌, ◌⊎◌, ◌-◌, ℕ, true, List, Contains, slice_get, Some}
+use Rattle.std.specs.Prelude.{◌≡◌, ◌⊎◌, ◌+◌, ◌-◌, ℕ, true, List, Contains, slice_get, Some, Result, OnOk}
 use Rattle.fs_names.specs.declared.coll.Coll.{Coll}
 use Rattle.fs_names.specs.declared.settings.Pos.{Pos}
 use Rattle.fs_names.specs.declared.settings.Settings.{Settings}
@@ -8,7 +8,7 @@ use Rattle.fs_model.specs.declared.op.Op.TheVariants.{RmColl}
 use Rattle.fs_model.specs.Check.{IsWithinLimits}
 use Rattle.fs_model.specs.Named.{colls_named}
 use Rattle.tree_api.specs.Tree.{Path, Tree, IsDir, IsFile}
-use Rattle.tree_api.specs.Disk.{Disk, Everywhere}
+use Rattle.tree_api.specs.Disk.{Disk, Everywhere, Keeps}
 use Rattle.tree_stands.specs.Trees.{dir_of}
 use Rattle.op_effects.specs.Ready.{Ready, trash}
 use Rattle.coll_ops.specs.Places.{trash_at}
@@ -41,6 +41,14 @@ pub record IsNext (set : Settings) (s : Spot) (op : Op) (d : Disk) : Type 0 wher
   pub here : slice_get s.ops s.i ≡ Some op
   pub now : Underway set s.how s.h s.n s.lo s.hi s.seq s.i d d
 
+-- each image is past what it was past, from one disk to another
+abbrev pub SpotKept : Settings → Spot → Disk → Disk → Type 0
+SpotKept set s old new = Keeps (Image set s.h s.n s.lo s.hi) old new
+
+-- and the operation is done
+abbrev pub SpotDone : Settings → Spot → Disk → Disk → Type 0
+SpotDone set s old new = Underway set s.how s.h s.n s.lo s.hi s.seq (s.i + 1) old new
+
 -- a file in place of a collection that the operation names, or a tree in the trash, where it puts a collection, that is too deep
 abbrev pub IsInTheWayOf : Op → Pos → Tree → Path → Type 0
 IsInTheWayOf op pos t p =
@@ -54,3 +62,11 @@ AllFit ops = (i : ℕ) (op : Op) → slice_get ops i ≡ Some op → IsWithinLim
 abbrev pub WhereDue : Settings → ℕ → List Op → Disk → (How → History → ℕ → ℕ → ℕ → Type 0) → Type 0
 WhereDue set seq ops old P = (how : How) (h : History) (n lo hi : ℕ) → IsTurn how h lo hi seq ops → Everywhere old (Image set h n lo hi)
     → reads set how h (seq - 1) old.tree → P how h n lo hi
+
+-- each image is past what it was past
+abbrev pub TxnKept : Settings → ℕ → List Op → Disk → Disk → Type 0
+TxnKept set seq ops old new = WhereDue set seq ops old (λ how h n lo hi. Keeps (Image set h n lo hi) old new)
+
+-- where all went well, what reads is past the transaction
+abbrev pub TxnDone : {T E : Type 0} → Settings → ℕ → List Op → Result T E → Disk → Disk → Type 0
+TxnDone set seq ops result old new = WhereDue set seq ops old (λ how h n lo hi. OnOk result (reads set how h seq new.tree))

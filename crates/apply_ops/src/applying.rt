@@ -1,13 +1,10 @@
 // Any operation that is built.
-ghost use Rattle.std.specs.Prelude.{◌≡◌, ◌+◌, ◌≤◌, true, OnOk, IsErrOf};
+ghost use Rattle.std.specs.Prelude.{◌≡◌, ◌≤◌, true, OnOk, IsErrOf};
 ghost use Rattle.fs_model.specs.Check.{IsWithinLimits};
 ghost use Rattle.fault_count.specs.Counted.{Counted};
 ghost use Rattle.tree_api.specs.Tree.{Path};
-ghost use Rattle.tree_api.specs.Disk.{Keeps};
-ghost use Rattle.tree_places.specs.Images.{Image};
-ghost use Rattle.tree_places.specs.Underway.{Underway};
 ghost use Rattle.apply_ops.specs.Editing.{is_built};
-ghost use Rattle.apply_ops.specs.Next.{Spot, IsNext, IsReady, IsInTheWayOf};
+ghost use Rattle.apply_ops.specs.Next.{Spot, IsNext, IsReady, IsInTheWayOf, SpotKept, SpotDone};
 
 use crate::editing::edit;
 use coll_ops::{drop_coll, make_coll};
@@ -34,9 +31,8 @@ pub fn apply<T: FileTree>(
     ensures faults { (T.disk tree.old).faults ≤ (T.disk tree.new).faults }
     ensures cause { IsErrOf result IndexFault.Tree → Counted (T.disk tree.old).faults (T.disk tree.new).faults }
     ensures syncs { (T.disk tree.new).syncs ≡ (T.disk tree.old).syncs }
-    ensures keeps { T.tells tree.new → (s : Spot) → IsNext set.now s op.now (T.disk tree.old) → Keeps (Image set.now s.h s.n s.lo s.hi) (T.disk tree.old) (T.disk tree.new) }
-    ensures done { T.tells tree.new → (s : Spot) → IsNext set.now s op.now (T.disk tree.old)
-        → OnOk result (Underway set.now s.how s.h s.n s.lo s.hi s.seq (s.i + 1) (T.disk tree.old) (T.disk tree.new)) }
+    ensures keeps { T.tells tree.new → (s : Spot) → IsNext set.now s op.now (T.disk tree.old) → SpotKept set.now s (T.disk tree.old) (T.disk tree.new) }
+    ensures done { T.tells tree.new → (s : Spot) → IsNext set.now s op.now (T.disk tree.old) → OnOk result (SpotDone set.now s (T.disk tree.old) (T.disk tree.new)) }
     ensures ready { T.tells tree.new → OnOk result (IsReady set.now (T.disk tree.new)) }
     ensures damaged { T.tells tree.new → (p : Path) → IsErrOf result (IndexFault.Damaged p) → IsInTheWayOf op.now pos (T.disk tree.old).tree p }
 {

@@ -1,17 +1,15 @@
 // Operations on one object.
-ghost use Rattle.std.specs.Prelude.{◌≡◌, ◌≢◌, ◌+◌, Some, Err, OnOk, IsErrOf};
+ghost use Rattle.std.specs.Prelude.{◌≡◌, ◌≢◌, Some, Err, OnOk, IsErrOf};
 ghost use Rattle.fs_model.specs.Check.{IsWithinLimits};
 ghost use Rattle.tree_api.specs.Counts.{Counts};
-ghost use Rattle.tree_api.specs.Disk.{Keeps, Leaves};
-ghost use Rattle.tree_api.specs.Tree.{Path, IsDir, IsFile};
+ghost use Rattle.tree_api.specs.Disk.{Leaves};
+ghost use Rattle.tree_api.specs.Tree.{Path, IsDir};
 ghost use Rattle.tree_stands.specs.Names.{Name, NameFits};
 ghost use Rattle.tree_stands.specs.Standing.{ObjectCrash};
-ghost use Rattle.tree_stands.specs.Trees.{dir_of, ForObject};
+ghost use Rattle.tree_stands.specs.Trees.{dir_of};
 ghost use Rattle.op_effects.specs.Ready.{Ready, OffStays, KeepsPlaces, trash as trash_path};
-ghost use Rattle.tree_places.specs.Images.{Image};
-ghost use Rattle.tree_places.specs.Underway.{Underway};
-ghost use Rattle.apply_ops.specs.Editing.{edited, file_after};
-ghost use Rattle.apply_ops.specs.Next.{Spot, IsNext};
+ghost use Rattle.apply_ops.specs.Editing.{edited, file_after, IsEdited, IsFileFor};
+ghost use Rattle.apply_ops.specs.Next.{Spot, IsNext, SpotKept, SpotDone};
 
 use crate::looking::is_there;
 use fs_model::Op;
@@ -56,7 +54,7 @@ fn edit_object<T: FileTree>(
     ensures crash { T.tells tree.new → (n : Name) → edited op.now ≡ Some n → ObjectCrash set.now n (file_after op.now) (T.disk tree.old) (T.disk tree.new) }
     ensures off { T.tells tree.new → (n : Name) → edited op.now ≡ Some n → Leaves (OffStays (dir_of n.coll)) (T.disk tree.old) (T.disk tree.new) }
     ensures places { T.tells tree.new → Leaves KeepsPlaces (T.disk tree.old) (T.disk tree.new) }
-    ensures done { T.tells tree.new → (n : Name) → edited op.now ≡ Some n → OnOk result (ForObject set.now n (λ x y. y ≡ file_after op.now x) (T.disk tree.old).tree (T.disk tree.new).tree) }
+    ensures done { T.tells tree.new → (n : Name) → edited op.now ≡ Some n → OnOk result (IsEdited set.now n op.now (T.disk tree.old).tree (T.disk tree.new).tree) }
     ensures ready { T.tells tree.new → OnOk result (Ready set.now (T.disk tree.new)) }
     ensures undamaged { T.tells tree.new → (p : Path) → result ≢ Err (IndexFault.Damaged p) }
 {
@@ -94,12 +92,11 @@ pub fn edit<T: FileTree>(
     requires edits { (n : Name) × (edited op.now ≡ Some n) }
     ensures told { T.tells tree.new → T.tells tree.old }
     ensures counts { Counts (IsErrOf result IndexFault.Tree) 5 0 (T.disk tree.old) (T.disk tree.new) }
-    ensures keeps { T.tells tree.new → (s : Spot) → IsNext set.now s op.now (T.disk tree.old) → Keeps (Image set.now s.h s.n s.lo s.hi) (T.disk tree.old) (T.disk tree.new) }
-    ensures done { T.tells tree.new → (s : Spot) → IsNext set.now s op.now (T.disk tree.old)
-        → OnOk result (Underway set.now s.how s.h s.n s.lo s.hi s.seq (s.i + 1) (T.disk tree.old) (T.disk tree.new)) }
+    ensures keeps { T.tells tree.new → (s : Spot) → IsNext set.now s op.now (T.disk tree.old) → SpotKept set.now s (T.disk tree.old) (T.disk tree.new) }
+    ensures done { T.tells tree.new → (s : Spot) → IsNext set.now s op.now (T.disk tree.old) → OnOk result (SpotDone set.now s (T.disk tree.old) (T.disk tree.new)) }
     ensures ready { T.tells tree.new → OnOk result (Ready set.now (T.disk tree.new)) }
     ensures trash { T.tells tree.new → IsDir (T.disk tree.old).tree trash_path → IsDir (T.disk tree.new).tree trash_path }
-    ensures damaged { T.tells tree.new → (n : Name) (p : Path) → edited op.now ≡ Some n → IsErrOf result (IndexFault.Damaged p) → (p ≡ dir_of n.coll) × IsFile (T.disk tree.old).tree p }
+    ensures damaged { T.tells tree.new → (n : Name) (p : Path) → edited op.now ≡ Some n → IsErrOf result (IndexFault.Damaged p) → IsFileFor n.coll (T.disk tree.old).tree p }
 {
     name_fits(op);
     let (coll, _) = op.colls();

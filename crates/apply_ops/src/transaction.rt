@@ -1,14 +1,7 @@
 // A whole transaction.
-ghost use Rattle.std.specs.Prelude.{◌≡◌, ℕ, ◌-◌, ◌≤◌, ◌^◌, true, length, slice_get, Some, OnOk, IsErrOf};
+ghost use Rattle.std.specs.Prelude.{◌≡◌, ◌≤◌, ◌^◌, length, OnOk, IsErrOf};
 ghost use Rattle.fault_count.specs.Counted.{Counted};
-ghost use Rattle.fs_model.specs.declared.op.Op.{Op};
-ghost use Rattle.fs_model.specs.Check.{IsWithinLimits};
-ghost use Rattle.tree_api.specs.Disk.{Keeps, Everywhere};
-ghost use Rattle.store_history.specs.History.{History};
-ghost use Rattle.store_turns.specs.declared.numbers.How.{How};
-ghost use Rattle.tree_places.specs.Images.{Image, reads};
-ghost use Rattle.tree_places.specs.Underway.{IsTurn};
-ghost use Rattle.apply_ops.specs.Next.{AllFit, IsReady, WhereDue};
+ghost use Rattle.apply_ops.specs.Next.{AllFit, IsReady, TxnKept, TxnDone};
 
 use crate::applying::apply;
 use fs_model::Op;
@@ -34,8 +27,8 @@ pub fn apply_all<T: FileTree>(
     ensures faults { (T.disk tree.old).faults ≤ (T.disk tree.new).faults }
     ensures cause { IsErrOf result IndexFault.Tree → Counted (T.disk tree.old).faults (T.disk tree.new).faults }
     ensures syncs { (T.disk tree.new).syncs ≡ (T.disk tree.old).syncs }
-    ensures keeps { T.tells tree.new → WhereDue set.now seq ops.now (T.disk tree.old) (λ how h n lo hi. Keeps (Image set.now h n lo hi) (T.disk tree.old) (T.disk tree.new)) }
-    ensures done { T.tells tree.new → WhereDue set.now seq ops.now (T.disk tree.old) (λ how h n lo hi. OnOk result (reads set.now how h seq (T.disk tree.new).tree)) }
+    ensures keeps { T.tells tree.new → TxnKept set.now seq ops.now (T.disk tree.old) (T.disk tree.new) }
+    ensures done { T.tells tree.new → TxnDone set.now seq ops.now result (T.disk tree.old) (T.disk tree.new) }
     ensures ready { T.tells tree.new → OnOk result (IsReady set.now (T.disk tree.new)) }
 {
     for (i, op) in ops.iter().enumerate() {
