@@ -1,8 +1,8 @@
 -- Operations on one object, and what they make of its file. An operation more is a line of each.
-use Rattle.std.specs.Prelude.{◌≡◌, Bool, true, false, Option, Some, None}
+use Rattle.std.specs.Prelude.{◌≡◌, Option, Some, None}
 use Rattle.fs_names.specs.Text.{oid_text}
 use Rattle.fs_model.specs.declared.op.Op.{Op}
-use Rattle.fs_model.specs.declared.op.Op.TheVariants.{Touch, Write, Zero, Truncate, Remove, SetAttrs, RmAttr, RmAttrs, Clone, CloneRange, MoveRename, OmapClear, OmapSet, OmapRemove, OmapRange}
+use Rattle.fs_model.specs.declared.op.Op.TheVariants.{Touch, Write, Zero, Truncate, Remove, SetAttrs, RmAttr, RmAttrs}
 use Rattle.fs_names.specs.declared.coll.Coll.{Coll}
 use Rattle.fs_names.specs.declared.settings.Settings.{Settings}
 use Rattle.tree_api.specs.Tree.{Path, Version, Tree, IsFile, zeros}
@@ -41,14 +41,3 @@ IsEdited set n op t u = ForObject set n (λ x y. y ≡ file_after op x) t u
 -- a file stands in a collection's place
 abbrev pub IsFileFor : Coll → Tree → Path → Type 0
 IsFileFor c t p = (p ≡ dir_of c) × IsFile t p
-
--- copies, moves and what concerns the omap are still to come
-abbrev pub is_built : Op → Bool
-is_built (Clone c o c2 o2) = false
-is_built (CloneRange c o c2 o2 from len to) = false
-is_built (MoveRename c o c2 o2) = false
-is_built (OmapClear c o) = false
-is_built (OmapSet c o header pairs) = false
-is_built (OmapRemove c o keys) = false
-is_built (OmapRange c o from to) = false
-is_built _ = true

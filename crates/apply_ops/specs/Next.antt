@@ -1,11 +1,10 @@
 -- The next operation of a transaction, and the next transaction.
-use Rattle.std.specs.Prelude.{◌≡◌, ◌⊎◌, ◌+◌, ◌-◌, ℕ, true, List, Contains, slice_get, Some, Result, OnOk}
+use Rattle.std.specs.Prelude.{◌≡◌, ◌⊎◌, ◌+◌, ◌-◌, ℕ, List, Contains, slice_get, Some, Result, OnOk}
 use Rattle.fs_names.specs.declared.coll.Coll.{Coll}
 use Rattle.fs_names.specs.declared.settings.Pos.{Pos}
 use Rattle.fs_names.specs.declared.settings.Settings.{Settings}
 use Rattle.fs_model.specs.declared.op.Op.{Op}
 use Rattle.fs_model.specs.declared.op.Op.TheVariants.{RmColl}
-use Rattle.fs_model.specs.Check.{IsWithinLimits}
 use Rattle.fs_model.specs.Named.{colls_named}
 use Rattle.tree_api.specs.Tree.{Path, Tree, IsDir, IsFile}
 use Rattle.tree_api.specs.Disk.{Disk, Everywhere, Keeps}
@@ -17,7 +16,6 @@ use Rattle.store_history.specs.History.{History}
 use Rattle.store_turns.specs.declared.numbers.How.{How}
 use Rattle.tree_places.specs.Images.{Image, reads}
 use Rattle.tree_places.specs.Underway.{IsTurn, Underway}
-use Rattle.apply_ops.specs.Editing.{is_built}
 
 -- any operation may be done
 pub record IsReady (set : Settings) (d : Disk) : Type 0 where
@@ -53,10 +51,6 @@ SpotDone set s old new = Underway set s.how s.h s.n s.lo s.hi s.seq (s.i + 1) ol
 abbrev pub IsInTheWayOf : Op → Pos → Tree → Path → Type 0
 IsInTheWayOf op pos t p =
     ((c : Coll) × Contains (colls_named op) c × (p ≡ dir_of c) × IsFile t p) ⊎ ((c : Coll) × (op ≡ RmColl c) × IsInTheWay (dir_of c) (trash_at pos) t p)
-
--- each operation is built, and has no fault of its own
-abbrev pub AllFit : List Op → Type 0
-AllFit ops = (i : ℕ) (op : Op) → slice_get ops i ≡ Some op → IsWithinLimits op × (is_built op ≡ true)
 
 -- the operations are the transaction seq, which no image has to be past, and the tree reads as after the one before
 abbrev pub WhereDue : Settings → ℕ → List Op → Disk → (How → History → ℕ → ℕ → ℕ → Type 0) → Type 0

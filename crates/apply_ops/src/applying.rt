@@ -3,7 +3,7 @@ ghost use Rattle.std.specs.Prelude.{◌≡◌, ◌≤◌, true, OnOk, IsErrOf};
 ghost use Rattle.fs_model.specs.Check.{IsWithinLimits};
 ghost use Rattle.fault_count.specs.Counted.{Counted};
 ghost use Rattle.tree_api.specs.Tree.{Path};
-ghost use Rattle.apply_ops.specs.Editing.{is_built};
+ghost use Rattle.built_ops.specs.Built.{is_built};
 ghost use Rattle.apply_ops.specs.Next.{Spot, IsNext, IsReady, IsInTheWayOf, SpotKept, SpotDone};
 
 use crate::editing::edit;

@@ -1,7 +1,8 @@
 // A whole transaction.
 ghost use Rattle.std.specs.Prelude.{◌≡◌, ◌≤◌, ◌^◌, length, OnOk, IsErrOf};
 ghost use Rattle.fault_count.specs.Counted.{Counted};
-ghost use Rattle.apply_ops.specs.Next.{AllFit, IsReady, TxnKept, TxnDone};
+ghost use Rattle.built_ops.specs.Built.{AllFit};
+ghost use Rattle.apply_ops.specs.Next.{IsReady, TxnKept, TxnDone};
 
 use crate::applying::apply;
 use fs_model::Op;

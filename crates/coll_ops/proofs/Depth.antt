@@ -4,7 +4,8 @@ use Rattle.std.proofs.lemmas.List.{length-append, append-nil}
 use Rattle.tree_api.specs.Tree.{Path, Version, Tree, IsDir}
 use Rattle.tree_api.specs.Disk.{Disk}
 use Rattle.coll_ops.specs.Changes.{Sweeps}
-use Rattle.coll_ops.specs.Trash.{IsFirst, DirBelow, FirstTooDeep}
+use Rattle.coll_ops.specs.Trash.{IsFirst, FirstTooDeep}
+use Rattle.op_effects.specs.Clear.{DirBelow}
 use Rattle.coll_ops.proofs.Clearing.{swept_now}
 
 -- a directory that stands after names went stood before

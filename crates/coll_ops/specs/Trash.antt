@@ -4,6 +4,7 @@ use Rattle.tree_api.specs.Answer.{Before}
 use Rattle.tree_api.specs.Tree.{Path, Tree, IsFile, IsDir}
 use Rattle.lfn_index.specs.Directory.{entry}
 use Rattle.op_effects.specs.Ready.{trash}
+use Rattle.op_effects.specs.Clear.{DirBelow}
 use Rattle.coll_ops.specs.Places.{Within}
 
 -- none is there twice
@@ -54,10 +55,6 @@ pub record FirstGone (dir : Path) (t u : Tree) : Type 0 where
 abbrev pub FirstGoes : Path → Tree → Tree → Bool → Type 0
 FirstGoes dir t u true = FirstGone dir t u
 FirstGoes dir t u false = ((s : List ℕ) → t.at (entry dir s) ≡ None) × (u.at ≡ t.at)
-
--- a directory so many levels below a path
-abbrev pub DirBelow : ℕ → Path → Tree → Path → Type 0
-DirBelow n p t q = (rest : Path) × (q ≡ p ++ rest) × (length rest ≡ n) × IsDir t q
 
 -- below what stands first in a directory
 abbrev pub FirstTooDeep : Path → Tree → Path → Type 0

@@ -8,7 +8,8 @@ ghost use Rattle.op_effects.specs.Ready.{Ready, trash};
 ghost use Rattle.op_effects.specs.Collections.{Drops};
 ghost use Rattle.coll_ops.specs.Places.{trash_at, Within};
 ghost use Rattle.coll_ops.specs.Changes.{Throws, Elsewhere, Faults, IsThrown};
-ghost use Rattle.coll_ops.specs.Trash.{HasTrees, TreesAfter, PlaceAfter, DirBelow, IsInTheWay};
+ghost use Rattle.coll_ops.specs.Trash.{HasTrees, TreesAfter, PlaceAfter, IsInTheWay};
+ghost use Rattle.op_effects.specs.Clear.{DirBelow};
 
 use crate::looking::kind_at;
 use crate::places::trash_path;

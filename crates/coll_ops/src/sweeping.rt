@@ -3,7 +3,7 @@ ghost use Rattle.std.specs.Prelude.{◌≡◌, ◌≢◌, ◌↔◌, ◌+◌, �
 ghost use Rattle.tree_api.specs.Tree.{Path, IsDir};
 ghost use Rattle.lfn_index.specs.Entries.{IsEntry};
 ghost use Rattle.coll_ops.specs.Changes.{Sweeps, Faults};
-ghost use Rattle.coll_ops.specs.Trash.{DirBelow};
+ghost use Rattle.op_effects.specs.Clear.{DirBelow};
 
 use crate::looking::kind_at;
 use index_fault::IndexFault;

@@ -15,7 +15,7 @@ mod values;
 
 pub use fault::{MakeFault, StoreFault};
 pub use laws::made_law;
-pub use new_store::make_store;
+pub use new_store::{is_new, make_store};
 pub use reading::{Identity, read_store};
 pub use settings::{settings_of, settings_text};
 pub use steps::{add_dir, add_file};

@@ -11,8 +11,8 @@ use fs_names::Settings;
 use std::alloc::Global;
 use tree_api::{FileTree, TreeError, TreePath};
 
-// Whether nothing stands but the root, and no snapshot is kept.
-fn is_new<T: FileTree>(alloc: Global, tree: &mut T) -> Result<bool, TreeError>
+/// Whether nothing stands but the root, and no snapshot is kept: whether a store can be made there.
+pub fn is_new<T: FileTree>(alloc: Global, tree: &mut T) -> Result<bool, TreeError>
     ensures told { T.tells tree.new → T.tells tree.old }
     ensures still { T.tells tree.new → Still (T.disk tree.old) (T.disk tree.new) }
     ensures counts { Counts (IsErrOf result TreeError.Refused) 1 0 (T.disk tree.old) (T.disk tree.new) }

@@ -1,0 +1,2 @@
+//! What objects the files of a tree are.
+#![tactic(auto)]
