@@ -1,5 +1,5 @@
 -- Operations that a store of files does so far. Copies, moves and what concerns the omap are still to come.
-use Rattle.std.specs.Prelude.{◌≡◌, ℕ, Bool, true, false, List, slice_get, Some}
+use Rattle.std.specs.Prelude.{◌≡◌, ◌≤◌, ℕ, Bool, true, false, List, length, slice_get, Some}
 use Rattle.fs_model.specs.declared.op.Op.{Op}
 use Rattle.fs_model.specs.declared.op.Op.TheVariants.{Clone, CloneRange, MoveRename, OmapClear, OmapSet, OmapRemove, OmapRange}
 use Rattle.fs_model.specs.Check.{IsWithinLimits}
@@ -17,3 +17,8 @@ is_built _ = true
 -- each operation is built, and has no fault of its own
 abbrev pub AllFit : List Op → Type 0
 AllFit ops = (i : ℕ) (op : Op) → slice_get ops i ≡ Some op → IsWithinLimits op × (is_built op ≡ true)
+
+-- a transaction of these operations can be done
+pub record CanDo (ops : List Op) : Type 0 where
+  pub each : AllFit ops
+  pub few : length ops ≤ 4096
