@@ -81,6 +81,9 @@ module _ (c : Coll) (fits : CollFits c) where
   pub other_entry : (d : Coll) → CollFits d → d ≢ c → (s : List ℕ) → Within (dir_of c) (entry (dir_of d) s) → ⊥
   other_entry d of_d differ s is = differ (one_coll d c of_d fits (second (coll_text d) (coll_text c) (s ∷ []) is.0 is.1))
 
+  pub other_within : (d : Coll) → CollFits d → d ≢ c → (q : Path) → Within (dir_of c) q → Within (dir_of d) q → ⊥
+  other_within d of_d differ q one two = differ (one_coll d c of_d fits (second (coll_text d) (coll_text c) two.0 one.0 (sym two.1 ∙ one.1)))
+
   off_own : (text : List ℕ) (p : Path) → IsOwn text → Within (dir_of c) (under text p) → ⊥
   off_own text p own is = never_own c fits text own (sym (second text (coll_text c) p is.0 is.1))
 
@@ -93,6 +96,9 @@ module _ (c : Coll) (fits : CollFits c) where
   pub off_trash : (s : List ℕ) → Within (dir_of c) (entry trash s) → ⊥
   off_trash s is = off_own (codes "trash") (s ∷ []) own_trash is
 
+  pub off_tree : (s : List ℕ) (q : Path) → Within (dir_of c) q → Within (entry trash s) q → ⊥
+  off_tree s q one two = never_own c fits (codes "trash") own_trash (second (coll_text c) (codes "trash") one.0 (s ∷ two.0) (sym one.1 ∙ two.1))
+
   module _ (pos : Pos) where
     pub never_trash : Within (trash_at pos) (dir_of c) → ⊥
     never_trash is = shorter (coll_text c) (codes "trash") (place_name pos) is.0 is.1
@@ -101,7 +107,7 @@ module _ (c : Coll) (fits : CollFits c) where
     never_trash_entry s is = never_own c fits (codes "trash") own_trash (second (coll_text c) (codes "trash") (s ∷ []) (place_name pos ∷ is.0) is.1)
 
     pub apart : (q : Path) → Within (dir_of c) q → Within (trash_at pos) q → ⊥
-    apart q one two = never_own c fits (codes "trash") own_trash (second (coll_text c) (codes "trash") one.0 (place_name pos ∷ two.0) (sym one.1 ∙ two.1))
+    apart q one two = off_tree (place_name pos) q one two
 
 apart_names : codes "aside" ≢ codes "trash"
 apart_names same = let e : 97 ≡ 116 = ap (λ (l : List ℕ). get_or l 0 0) same in absurd (omega (arith, e))
@@ -131,6 +137,9 @@ third x y p q same = cc
 -- trees in the trash are apart
 pub trash_entry_off : (s x : List ℕ) → x ≢ s → Within (entry trash s) (entry trash x) → ⊥
 trash_entry_off s x differ is = differ (third x s [] is.0 is.1)
+
+pub trees_apart : (s x : List ℕ) → x ≢ s → (q : Path) → Within (entry trash s) q → Within (entry trash x) q → ⊥
+trees_apart s x differ q one two = differ (third x s two.0 one.0 (sym two.1 ∙ one.1))
 
 -- a path within one below a second is within the second
 pub within_below : (p x q : Path) → Within (p ++ x) q → Within p q
