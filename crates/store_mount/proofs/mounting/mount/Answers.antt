@@ -106,7 +106,7 @@ returns-in-Err-go_on-clause-refused g c = λ tells told.
     let found = c.in-Ok.found in
     let entry = (g.D.Device.state c.args.dev.now).disk in
     let loads : Loads entry.reads c.args.fsid.now = record { head = found.ring.head; header = c.in-Ok.ensures.head (search rules); fsid_is = c.in-Ok.ensures.fsid; unspent = c.in-Ok.ensures.unspent } in
-    replay_explains S.fits S.number (g.T.FileTree.disk c.args.tree.now).tree c.args.fsid.now entry.reads loads found.committed (c.in-Ok.ensures.number (search rules)) c.in-Ok.ensures.no_gap
+    replay_explains S.fits S.number (S.laid set) (g.T.FileTree.disk c.args.tree.now).tree c.args.fsid.now entry.reads loads found.committed (c.in-Ok.ensures.number (search rules)) c.in-Ok.ensures.no_gap (c.in-Ok.ensures.laid (search rules))
     c.in-Err-go_on.fault (λ p e. c.in-Err-go_on.ensures.undamaged (search rules) p (ap Err e))
     (subst (λ (d : Disk). RefusesReplay S.fits found.committed found.ring.head.seq (readable d.stable) c.in-Err-go_on.fault) (c.in-Ok.ensures.same (search rules)) (c.in-Err-go_on.ensures.refused (search rules)))
 
@@ -118,7 +118,7 @@ returns-in-Err-go_on-clause-only g c = λ tells told o n last s fit fresh.
     let entry = (g.D.Device.state c.args.dev.now).disk in
     let loads : Loads entry.reads c.args.fsid.now = record { head = found.ring.head; header = c.in-Ok.ensures.head (search rules); fsid_is = c.in-Ok.ensures.fsid; unspent = c.in-Ok.ensures.unspent } in
     outside S.fits (S.image set) (S.reads set) S.number (S.laid set) (g.met.S.Side.theory set) c.args.fsid.now entry.reads (g.T.FileTree.disk c.args.tree.now).tree o n last s fit fresh c.in-Err-go_on.fault
-    (replay_explains S.fits S.number (g.T.FileTree.disk c.args.tree.now).tree c.args.fsid.now entry.reads loads found.committed (c.in-Ok.ensures.number (search rules)) c.in-Ok.ensures.no_gap
+    (replay_explains S.fits S.number (S.laid set) (g.T.FileTree.disk c.args.tree.now).tree c.args.fsid.now entry.reads loads found.committed (c.in-Ok.ensures.number (search rules)) c.in-Ok.ensures.no_gap (c.in-Ok.ensures.laid (search rules))
     c.in-Err-go_on.fault (λ p e. c.in-Err-go_on.ensures.undamaged (search rules) p (ap Err e))
     (subst (λ (d : Disk). RefusesReplay S.fits found.committed found.ring.head.seq (readable d.stable) c.in-Err-go_on.fault) (c.in-Ok.ensures.same (search rules)) (c.in-Err-go_on.ensures.refused (search rules))))
 
@@ -210,6 +210,7 @@ returns-clause-can g c = λ tells told.
       loads = loads;
       number_is = c.in-Ok.ensures.number (search rules);
       no_gap = c.in-Ok.ensures.no_gap;
+      is_laid = c.in-Ok.ensures.laid (search rules);
       txns = spelled.0;
       spelled = subst (λ (d : Disk). Spells (above found.committed found.ring.head.seq (readable d.stable)) spelled.0) (c.in-Ok.ensures.same (search rules)) spelled.1;
       fit = spelled.2;
