@@ -1,5 +1,5 @@
 -- What is the store's own, and what a number that is written leaves.
-use Rattle.std.proofs.Common.{◌≡◌, ◌≢◌, ◌⊎◌, inl, inr, ⊎_elim, ℕ, ◌+◌, ◌<◌, ◌^◌, true, false, List, [], ◌∷◌, length, codes, refl, sym, ◌∙◌, ap, subst, arith, Option, Some, None}
+use Rattle.std.proofs.Common.{◌≡◌, ◌≢◌, ◌⊎◌, inl, inr, ⊎_elim, ℕ, ◌+◌, ◌<◌, ◌^◌, false, List, [], ◌∷◌, length, codes, refl, sym, ◌∙◌, ap, subst, arith, Option, Some, None}
 use Rattle.std.proofs.lemmas.List.{same_from_push, length_push}
 use Rattle.std.specs.Option.{option_map}
 use Rattle.fs_names.specs.declared.coll.Coll.{Coll}
@@ -156,10 +156,10 @@ module _ (v : Version) (e f : Tree) (goes : Replaces building number_path v e f)
     entry_short : (step : List ℕ) → entry (dir_of c) step ≢ number_path
     entry_short step same = two_not_three (codes "current") (codes "commit_op_seq") (dir_of c) step refl (sym same)
 
-    at_same : (step : List ℕ) → f.at (entry (dir_of c) step) ≡ e.at (entry (dir_of c) step)
+    pub at_same : (step : List ℕ) → f.at (entry (dir_of c) step) ≡ e.at (entry (dir_of c) step)
     at_same step = goes.others (entry (dir_of c) step) (entry_off step) (entry_short step)
 
-    nodes_same : (step : List ℕ) (k : ℕ) → e.at (entry (dir_of c) step) ≡ Some k → f.node k ≡ e.node k
+    pub nodes_same : (step : List ℕ) (k : ℕ) → e.at (entry (dir_of c) step) ≡ Some k → f.node k ≡ e.node k
     nodes_same step k here = goes.nodes (entry (dir_of c) step) k (entry_off step) (entry_short step) here
 
     coll_stays : CollStays set c e f

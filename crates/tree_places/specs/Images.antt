@@ -1,9 +1,9 @@
 -- What a tree shows of a store's history, and of the store itself.
-use Rattle.std.specs.Prelude.{◌≡◌, ◌≤◌, ℕ, ◌∷◌, ◌++◌, [], List, codes, slice_get, Some}
+use Rattle.std.specs.Prelude.{◌≡◌, ◌≤◌, ℕ, List, slice_get, Some}
 use Rattle.fs_names.specs.declared.settings.Settings.{Settings}
 use Rattle.fs_model.specs.declared.op.Op.{Op}
 use Rattle.built_ops.specs.Built.{CanDo}
-use Rattle.tree_api.specs.Tree.{Path, Tree, IsDir, IsFree, current}
+use Rattle.tree_api.specs.Tree.{Tree, IsDir, IsFree}
 use Rattle.op_effects.specs.Clear.{IsClear}
 use Rattle.op_effects.specs.Ready.{trash}
 use Rattle.lfn_index.specs.Changes.{aside}
