@@ -1,5 +1,5 @@
 -- Behind a whole sync, and behind a committed number that is written, operations may be done.
-use Rattle.std.proofs.Common.{◌≡◌, ◌⊎◌, inl, inr, ⊎_elim, ℕ, ◌<◌, ◌≤◌, ◌^◌, List, sym, ◌∙◌, ap, subst, Option, Some, Result, Ok, Err, OnOk}
+use Rattle.std.proofs.Common.{◌≡◌, ◌⊎◌, inl, inr, ⊎_elim, ℕ, ◌<◌, ◌≤◌, ◌^◌, List, refl, sym, ◌∙◌, ap, subst, Option, Some, Result, Ok, Err, OnOk}
 use Rattle.std.specs.Prelude.{IsOk}
 use Rattle.fs_names.specs.declared.coll.Coll.{Coll}
 use Rattle.fs_names.specs.declared.settings.Settings.{Settings}
@@ -28,7 +28,7 @@ synced_ready set old new s0 s1 stays only is =
     record { ready = ready_alone set new s1 (λ c may. only c may ∙ sym stays.tree) (record { own = own; whole = whole }); own = own }
 
 pub all_synced : {T E : Type 0} (r : Result T E) (set : Settings) (old new : Disk) → Sound old → Sound new → SyncedAll old new (IsOk r) → IsReady set old → OnOk r (IsReady set new)
-all_synced (Ok v) set old new s0 s1 synced is = synced_ready set old new s0 s1 synced.stays (synced.all tt) is
+all_synced (Ok v) set old new s0 s1 synced is = synced_ready set old new s0 s1 synced.stays (synced.all refl) is
 all_synced (Err e) set old new s0 s1 synced is = tt
 
 -- a number is written

@@ -1,4 +1,3 @@
-use Rattle.std.proofs.Common.{ℕ}
 use Rattle.tree_places.proofs.Ready.{may_number}
 use Rattle.file_side.proofs.Turns.{then_ok}
 use Rattle.file_side.proofs.Written.{numbered, then_numbered, reads_on, written_ready}
