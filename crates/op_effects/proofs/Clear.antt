@@ -3,8 +3,10 @@ use Rattle.std.proofs.Common.{◌≡◌, inl, inr, ℕ, Bool, true, false, refl,
 use Rattle.fs_names.specs.declared.coll.Coll.{Coll}
 use Rattle.fs_names.specs.Reading.{CollFits}
 use Rattle.tree_api.specs.Tree.{Path, Tree, IsDir, IsFile, IsFree}
+use Rattle.lfn_index.specs.Directory.{entry}
 use Rattle.tree_stands.specs.Trees.{dir_of}
 use Rattle.op_effects.specs.Clear.{DirBelow, IsClear, KeepsFree, KeepsClear}
+use Rattle.op_effects.specs.Ready.{trash}
 
 -- a file in a collection's place stood there in e
 abbrev pub FilesFrom : Tree → Tree → Type 0
@@ -21,7 +23,7 @@ never_both t q free dir = by free
     nowhere e = cc
 
     kinds : (n m : ℕ) → Some n ≡ Some m → (t.node n).dir ≡ false → (t.node m).dir ≡ true → ⊥
-    kinds n m same no yes = cc
+    kinds n m same off on = cc
 
     by : IsFree t q → ⊥
     by (inl none) = nowhere (sym none ∙ dir.1)
@@ -50,7 +52,7 @@ pub clear_from : (e g f : Tree) → FilesFrom e f → DirsFrom g f → IsClear e
 clear_from e g f files dirs one two = record {
   free = λ c fits file. one.free c fits (files c fits file);
   colls = λ c fits q is. two.colls c fits q (below_from g f dirs 9 (dir_of c) q is);
-  trees = λ step q is. two.trees step q (below_from g f dirs 9 _ q is);
+  trees = λ step q is. two.trees step q (below_from g f dirs 9 (entry trash step) q is);
 }
 
 -- or both from the same
