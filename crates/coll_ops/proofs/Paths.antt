@@ -1,29 +1,17 @@
 -- Where collections and the trash stand.
-use Rattle.std.proofs.Common.{◌≡◌, ◌≢◌, ◌⊎◌, inl, inr, ⊎_elim, ℕ, ◌<◌, ◌≤◌, Bool, false, true, not, ◌&&◌, ◌==◌, List, [], ◌∷◌, ◌++◌, length, get_or, codes, All, refl, sym, ◌∙◌, ap, subst, arith, Option, Some, None, append_assoc}
+use Rattle.std.proofs.Common.{◌≡◌, ◌≢◌, ◌⊎◌, inl, inr, ⊎_elim, ℕ, true, List, [], ◌∷◌, ◌++◌, get_or, codes, refl, sym, ◌∙◌, ap, subst, arith, Option, Some, None, append_assoc}
 use Rattle.std.proofs.lemmas.Bool.{cases_Bool}
-use Rattle.std.proofs.lemmas.Bool.Decides.{nat_tests}
-use Rattle.std.proofs.lemmas.List.{length-append, append-nil}
-use Rattle.std.proofs.lemmas.List.Elements.{All-weaker, All-append, All-cons}
-use Rattle.std.proofs.lemmas.List.Sums.{AllPass-from_list_all}
-use Rattle.std.specs.Fmt.{digits}
-use Rattle.std.specs.List.{list_all}
-use Rattle.std.specs.Char.{is_ascii_graphic}
+use Rattle.std.proofs.lemmas.List.{append-nil}
 use Rattle.std.specs.Ordering.{eq_by_cmp}
 use Rattle.fs_names.specs.declared.coll.Coll.{Coll}
-use Rattle.fs_names.specs.declared.coll.Coll.TheVariants.{Meta, Pg}
 use Rattle.fs_names.specs.declared.settings.Pos.{Pos}
-use Rattle.fs_names.specs.Numbers.{is_lower_digit}
 use Rattle.fs_names.specs.Order.{coll_cmp}
 use Rattle.fs_names.specs.Reading.{CollFits, coll_of, pg_of, pg_from}
 use Rattle.fs_names.specs.Text.{coll_text}
 use Rattle.fs_names.proofs.CollLaw.{coll_texts_are_read}
-use Rattle.fs_names.proofs.Colls.{head_text, temp_text}
-use Rattle.fs_names.proofs.Digits.{digits-lower}
-use Rattle.tree_api.specs.Step.{IsStep, IsStepByte}
 use Rattle.tree_api.specs.Tree.{Path, IsAbove}
 use Rattle.lfn_index.specs.Directory.{entry}
 use Rattle.lfn_index.specs.Changes.{aside, place_name}
-use Rattle.lfn_index.proofs.Places.{is_step_from}
 use Rattle.fs_cells.proofs.Looks.{is_coll}
 use Rattle.tree_stands.specs.Trees.{dir_of}
 use Rattle.tree_stands.proofs.Names.{coll_itself, true_not_false}
