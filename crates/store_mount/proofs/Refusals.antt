@@ -3,8 +3,6 @@ use Rattle.std.proofs.Common.{◌≡◌, ℕ, ◌+◌, ◌-◌, ◌≤◌, List,
 use Rattle.fs_model.specs.declared.op.Op.{Op}
 use Rattle.fs_model.specs.Objects.{Objects}
 use Rattle.tree_api.specs.Tree.{Tree}
-use Rattle.index_fault.specs.declared.IndexFault.{IndexFault}
-use Rattle.index_fault.specs.declared.IndexFault.TheVariants as index
 use Rattle.ring_frame.specs.Frame.{Entry}
 use Rattle.ring_frame.specs.Heads.{Head, head_of}
 use Rattle.ring_images.specs.Held.{readable}
@@ -17,17 +15,11 @@ use Rattle.store_turns.proofs.Redone.{told_txn}
 use Rattle.store_mount.specs.declared.fault.MountFault.{MountFault}
 use Rattle.store_mount.specs.declared.fault.MountFault.TheVariants.{NoHeader, WrongFsid, Spent, BadSeq, JournalGap, Damaged, BadEntry, Tree as OfTree, Device, Memory}
 use Rattle.store_mount.specs.Causes.{AreFit, IsFoundFirst, IsOutside, RefusesNumber, RefusesLook, RefusesEntry, RefusesReplay, IsBadEntry, Loads, Explains}
-use Rattle.store_mount.specs.Fault.{of_index}
 use Rattle.store_mount.proofs.Fit.{fit_at}
 use Rattle.store_mount.proofs.Told.{Spelled}
 use Rattle.store_mount.proofs.Ways.{some_head, no_gap, spelled}
 
--- the look over the tree, and what was found before it
-pub look_refuses : (laid : Tree → Type 0) (t : Tree) (f : IndexFault) → ((p : List (List ℕ)) → f ≡ index.Damaged p → laid t → ⊥) → RefusesLook laid t (of_index f)
-look_refuses laid t index.Memory h = tt
-look_refuses laid t index.Tree h = tt
-look_refuses laid t (index.Damaged path) h = h path refl
-
+-- what stops a mount before it does any entry again
 module _ (fits : List Op → Type 0) (number : Tree → ℕ → Type 0) (laid : Tree → Type 0) (t : Tree) (bytes fsid : List ℕ) (loads : Loads bytes fsid) where
   pub number_explains : (f : MountFault) → RefusesNumber number t f → Explains fits number laid fsid t bytes f
   number_explains NoHeader h = absurd h

@@ -135,6 +135,9 @@ pub fn find<T: FileTree, S: Side<T>, D: Device>(
     if start > committed + 1 {
         return Err(MountFault::JournalGap { start, committed });
     }
-    look(alloc, side, tree)?;
+    match look(alloc, side, tree) {
+        Ok(()) => {}
+        Err(fault) => return Err(fault),
+    }
     Ok(Found { ring, committed })
 }

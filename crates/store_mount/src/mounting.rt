@@ -72,7 +72,7 @@ fn go_on<T: FileTree, S: Side<T>, D: Device>(
     ensures ready { T.tells tree.new → OnOk result (S.ready (S.set side.now) (T.disk tree.new)) }
     ensures refused { D.tells dev.new → IfErr result (RefusesReplay S.fits committed ring.old.head.seq (synced (D.state dev.old).disk)) }
     ensures late { T.tells tree.new → IfErr result (λ fault. IsFoundFirst fault → ⊥) }
-    ensures untouched { D.tells dev.new → IfErr result (λ fault. IsFoundFirst fault → (D.state dev.new).disk ≡ (D.state dev.old).disk) }
+    ensures device_stays { D.tells dev.new → IfErr result (λ fault. IsFoundFirst fault → (D.state dev.new).disk ≡ (D.state dev.old).disk) }
     ensures undamaged { T.tells tree.new → (p : Path) → result ≢ Err (MountFault.Damaged p) }
     ensures told { T.tells tree.new → T.tells tree.old }
     ensures honest { D.tells dev.new → D.tells dev.old }

@@ -26,8 +26,8 @@ returns-then-start-committed-clause-refused g c = λ tells told.
       gap = c.if-start-committed.true;
     }
 
-pub returns-in_err-look-clause-refused : goal.returns-in_err-look-clause-refused
-returns-in_err-look-clause-refused g c = λ tells told.
+pub returns-in-Err-look-clause-refused : goal.returns-in-Err-look-clause-refused
+returns-in-Err-look-clause-refused g c = λ tells told.
     let S = g.S.Side in
     let set = S.set c.args.side.now in
     let ring = c.in_ok-ring.ensures in
@@ -36,5 +36,5 @@ returns-in_err-look-clause-refused g c = λ tells told.
     let two = (c.committed_number.ensures.still (search rules)).stays.tree in
     let n = c.in-Ok-committed_number.committed in
     look_explains S.fits S.number (S.laid set) (g.T.FileTree.disk c.args.tree.now).tree (g.D.Device.state c.args.dev.now).disk.reads c.args.fsid.now loads n
-    (subst (λ (t : Tree). S.number t n) one (c.in-Ok-committed_number.ensures.number (search rules))) (omega (arith, c.start_seq-start.ensures, c.if-start-committed.false)) c.in_err-look.error
-    (subst (λ (t : Tree). RefusesLook (S.laid set) t c.in_err-look.error) (two ∙ one) (c.in_err-look.ensures.refused (search rules)))
+    (subst (λ (t : Tree). S.number t n) one (c.in-Ok-committed_number.ensures.number (search rules))) (omega (arith, c.start_seq-start.ensures, c.if-start-committed.false)) c.in-Err-look.fault
+    (subst (λ (t : Tree). RefusesLook (S.laid set) t c.in-Err-look.fault) (two ∙ one) (c.in-Err-look.ensures.refused (search rules)))
