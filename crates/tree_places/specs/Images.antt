@@ -1,7 +1,7 @@
 -- What a tree shows of a store's history, and of the store itself.
-use Rattle.std.specs.Prelude.{◌≤◌, ℕ, ◌∷◌, ◌++◌, [], List, codes}
+use Rattle.std.specs.Prelude.{◌≤◌, ℕ, List}
 use Rattle.fs_names.specs.declared.settings.Settings.{Settings}
-use Rattle.tree_api.specs.Tree.{Path, Tree, IsDir, IsFree, current}
+use Rattle.tree_api.specs.Tree.{Tree, IsDir, IsFree}
 use Rattle.op_effects.specs.Clear.{IsClear}
 use Rattle.op_effects.specs.Ready.{trash}
 use Rattle.lfn_index.specs.Changes.{aside}

@@ -1,11 +1,10 @@
 -- What a change of a tree leaves of what is the store's own.
-use Rattle.std.specs.Prelude.{◌≡◌, ◌⊎◌, ◌<◌, ◌^◌, ℕ, List, Some}
+use Rattle.std.specs.Prelude.{◌≡◌, ◌⊎◌, ◌<◌, ◌^◌, ℕ, Some}
 use Rattle.fs_names.specs.declared.coll.Coll.{Coll}
 use Rattle.fs_names.specs.declared.settings.Settings.{Settings}
 use Rattle.fs_names.specs.Reading.{CollFits}
-use Rattle.tree_api.specs.Tree.{Tree, IsFree, look}
+use Rattle.tree_api.specs.Tree.{Tree, look}
 use Rattle.lfn_index.specs.Changes.{aside}
-use Rattle.lfn_index.specs.Directory.{entry}
 use Rattle.tree_stands.specs.Trees.{dir_of}
 use Rattle.commit_point.specs.Number.{number_path, number_file, HasNumber, Renumbers}
 use Rattle.store_history.specs.History.{History}
