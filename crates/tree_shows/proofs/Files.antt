@@ -1,5 +1,5 @@
 -- A file with the cells of an object is the object's.
-use Rattle.std.proofs.Common.{◌≡◌, ℕ, true, false, List, [], length, get_or, refl, sym, ◌∙◌, ap, Option, Some, None}
+use Rattle.std.proofs.Common.{◌≡◌, ℕ, true, false, List, [], length, get_or, refl, sym, ◌∙◌, Option, Some, None}
 use Rattle.std.proofs.lemmas.Grind.{same_number_lists}
 use Rattle.std.specs.Cmp.Lexicographic.{slice_cmp, nat_list_cmp_total}
 use Rattle.std.specs.Ordering.{nat_cmp}

@@ -20,7 +20,7 @@ use Rattle.fs_cells.specs.declared.cell.Part.{Part}
 use Rattle.fs_cells.specs.Actions.{act_of}
 use Rattle.fs_cells.specs.Values.{value_at, cells_of}
 use Rattle.fs_cells.proofs.Rows.{fold_law}
-use Rattle.tree_stands.specs.Names.{Name, NameFits, name_fits, cell_at}
+use Rattle.tree_stands.specs.Names.{Name, name_fits, cell_at}
 use Rattle.tree_stands.specs.Shown.{value_in, cells_in, guards_in}
 use Rattle.tree_stands.specs.Trees.{dir_of, Maps, AreMaps, shown, name_at}
 use Rattle.tree_stands.proofs.Names.{fit_cases, name_is_fit}
