@@ -1,7 +1,7 @@
 -- Directories at their depths, in a tree that is sound.
-use Rattle.std.proofs.Common.{◌≡◌, ◌≢◌, inl, inr, ℕ, suc, ◌+◌, List, [], ◌∷◌, ◌++◌, length, refl, sym, ◌∙◌, ap, subst, arith, Option, Some, None, append_assoc}
+use Rattle.std.proofs.Common.{◌≡◌, ◌≢◌, ℕ, suc, ◌+◌, List, [], ◌∷◌, ◌++◌, length, refl, sym, ◌∙◌, subst, arith, None, append_assoc}
 use Rattle.std.proofs.lemmas.List.{length-append, append-nil}
-use Rattle.tree_api.specs.Tree.{Path, Tree, IsDir, IsFile, IsFree}
+use Rattle.tree_api.specs.Tree.{Path, Tree, IsDir, IsFree}
 use Rattle.tree_api.specs.Disk.{Disk, Sound}
 use Rattle.lfn_index.specs.Directory.{entry}
 use Rattle.op_effects.specs.Clear.{DirBelow, IsShallow}

@@ -5,11 +5,13 @@ use Rattle.std.proofs.lemmas.List.{get_or_default}
 use Rattle.tree_api.specs.Answer.{IsListing, kind_of}
 use Rattle.tree_api.specs.Tree.{Path, Tree, IsFile, IsDir, IsFree}
 use Rattle.tree_api.specs.declared.tree.Entry.{Entry}
+use Rattle.tree_api.specs.declared.tree.Kind.{Kind}
 use Rattle.tree_api.specs.declared.tree.Kind.TheVariants.{File, Dir}
 use Rattle.lfn_index.specs.Directory.{entry}
 use Rattle.lfn_index.specs.Entries.{IsEntry}
 use Rattle.lfn_index.proofs.Listings.{listed_entries}
 use Rattle.lfn_index.proofs.Seen.{At}
+use Rattle.coll_ops.specs.Places.{IsThere}
 use Rattle.coll_ops.proofs.Clearing.{one_step, entry_file, entry_dir}
 use Rattle.store_walk.specs.Walked.{HoldsFiles}
 
@@ -21,6 +23,14 @@ dir_not_free t p dir (inr file) =
     let same : file.0 ≡ dir.0 = cc in
     let z : false ≡ true = sym file.2 ∙ ap (λ (n : ℕ). (t.node n).dir) same ∙ dir.2 in
     cc
+
+-- what stands at an entry's path is of its kind
+pub entry_kind : (t : Tree) (dir p : Path) (e : Entry) → IsEntry t dir e → p ≡ dir ++ e.step → IsThere t p (Some e.kind)
+entry_kind t dir p e is path = by e.kind refl
+  where
+    by : (k : Kind) → e.kind ≡ k → IsThere t p (Some k)
+    by File file = entry_file t dir p e is path file
+    by Dir at = entry_dir t dir p e is path at
 
 -- each of the first i entries that has one step is a file
 abbrev pub AreFiles : List Entry → ℕ → Type 0

@@ -1,5 +1,5 @@
 -- A collection's directory, as its listing tells.
-use Rattle.std.proofs.Common.{◌≡◌, ◌≢◌, inl, inr, ⊎_elim, ℕ, ◌<◌, Bool, true, false, List, [], ◌∷◌, ◌++◌, length, get_or, Contains, refl, sym, ◌∙◌, ap, subst, arith, Option, Some, None, Result, Ok, Err}
+use Rattle.std.proofs.Common.{◌≡◌, inl, inr, ⊎_elim, ℕ, ◌<◌, true, false, List, length, get_or, Contains, refl, sym, ◌∙◌, ap, subst, arith, Option, Some, None, Result}
 use Rattle.std.specs.Prelude.{◌↔◌, is_ok}
 use Rattle.std.specs.Option.{ok_or}
 use Rattle.std.proofs.lemmas.List.{same_from_push}
@@ -8,8 +8,7 @@ use Rattle.fs_names.specs.declared.coll.Coll.{Coll}
 use Rattle.fs_names.specs.declared.fault.CollFault.{CollFault}
 use Rattle.fs_names.specs.declared.fault.CollFault.TheVariants.{NotColl}
 use Rattle.fs_names.specs.declared.settings.Settings.{Settings}
-use Rattle.fs_names.specs.Reading.{CollFits, coll_of}
-use Rattle.fs_names.specs.Text.{coll_text}
+use Rattle.fs_names.specs.Reading.{coll_of}
 use Rattle.fs_names.proofs.CollLaw.{coll_texts_are_read, colls_read_are_spelled}
 use Rattle.tree_api.specs.Tree.{Path, Tree, IsDir, IsFree}
 use Rattle.tree_api.specs.Disk.{Disk, Sound}
@@ -18,7 +17,6 @@ use Rattle.lfn_index.specs.Listing.{IsUnknown, IsTwice, IsFirstDamage}
 use Rattle.lfn_index.specs.Maps.{Whole}
 use Rattle.lfn_index.specs.Subdirs.{HasSubdir}
 use Rattle.lfn_index.proofs.Seen.{never_before}
-use Rattle.lfn_index.specs.declared.listing.Listed.{Listed}
 use Rattle.tree_api.specs.Answer.{Before}
 use Rattle.store_walk.specs.Walked.{HoldsFiles, IsColl}
 use Rattle.store_walk.proofs.Looked.{dir_not_free}

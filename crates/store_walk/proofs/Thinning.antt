@@ -1,9 +1,9 @@
 -- Files that go from a directory, one after another.
-use Rattle.std.proofs.Common.{◌≡◌, ◌≢◌, inl, inr, ⊎_elim, ℕ, ◌+◌, ◌<◌, ◌≤◌, false, List, [], ◌∷◌, ◌++◌, length, get_or, refl, sym, ◌∙◌, ap, subst, Some, None}
-use Rattle.std.specs.Prelude.{Result, Ok}
+use Rattle.std.proofs.Common.{◌≡◌, inl, inr, ⊎_elim, ℕ, ◌<◌, List, [], ◌∷◌, ◌++◌, length, get_or, refl, sym, ◌∙◌, ap, subst, Some, None}
+use Rattle.std.specs.Prelude.{Result}
 use Rattle.std.proofs.lemmas.List.{append-nil}
 use Rattle.tree_api.specs.Answer.{IsListing, kind_of}
-use Rattle.tree_api.specs.Tree.{Path, Names, Tree, IsDir, IsFile, IsFree, Gone}
+use Rattle.tree_api.specs.Tree.{Path, Names, Tree, IsFree, Gone}
 use Rattle.tree_api.specs.Disk.{Disk, Sound, Stays, Leaves, NameChange}
 use Rattle.tree_api.specs.Renaming.{Renamed, NoNode, Without, Removes}
 use Rattle.tree_api.specs.declared.tree.Entry.{Entry}

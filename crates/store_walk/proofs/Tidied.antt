@@ -1,5 +1,5 @@
 -- What lasts where files that were being built go.
-use Rattle.std.proofs.Common.{◌≡◌, ◌≢◌, ◌⊎◌, inl, inr, ⊎_elim, ℕ, ◌+◌, List, [], ◌∷◌, length, refl, sym, ◌∙◌, ap, arith, Some, None}
+use Rattle.std.proofs.Common.{◌≡◌, ◌≢◌, ◌⊎◌, inl, ⊎_elim, ℕ, ◌+◌, List, [], ◌∷◌, length, sym, ◌∙◌, ap, arith, Some, None}
 use Rattle.std.proofs.lemmas.List.{length-append, append-nil}
 use Rattle.fs_names.specs.declared.coll.Coll.{Coll}
 use Rattle.fs_names.specs.declared.settings.Settings.{Settings}
@@ -10,7 +10,7 @@ use Rattle.tree_api.specs.Renaming.{Renamed, NoNode}
 use Rattle.tree_api.proofs.Moments.{now_from}
 use Rattle.lfn_index.specs.Changes.{aside}
 use Rattle.lfn_index.specs.Directory.{lfn_name, entry}
-use Rattle.lfn_index.specs.Maps.{Level, IsAside}
+use Rattle.lfn_index.specs.Maps.{IsAside}
 use Rattle.replay_guard.specs.Guards.{guard_name}
 use Rattle.tree_stands.specs.Trees.{dir_of, dir_guard, AllWhole}
 use Rattle.op_effects.specs.Clear.{KeepsFree}

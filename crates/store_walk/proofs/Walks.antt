@@ -4,7 +4,7 @@ use Rattle.fs_names.specs.declared.coll.Coll.{Coll}
 use Rattle.fs_names.specs.declared.settings.Settings.{Settings}
 use Rattle.fs_names.specs.Reading.{CollFits}
 use Rattle.fs_names.specs.Text.{coll_text}
-use Rattle.tree_api.specs.Tree.{Path, Tree, IsDir, IsFile, IsFree, current}
+use Rattle.tree_api.specs.Tree.{Path, Tree, IsDir, IsFile, current}
 use Rattle.tree_api.specs.Disk.{Disk, Sound}
 use Rattle.lfn_index.specs.Directory.{entry}
 use Rattle.lfn_index.specs.Maps.{Whole}
@@ -12,7 +12,7 @@ use Rattle.tree_stands.specs.Trees.{dir_of}
 use Rattle.op_effects.specs.Ready.{trash}
 use Rattle.coll_ops.proofs.Kept.{empty_dir, below_missing}
 use Rattle.store_walk.specs.Deep.{IsBounded}
-use Rattle.store_walk.specs.Walked.{IsWalked, OwnStands, AllPlaced, IsPlaced, HoldsObjects, HoldsFiles, IsColl}
+use Rattle.store_walk.specs.Walked.{IsWalked, OwnStands, AllPlaced, HoldsObjects, HoldsFiles, IsColl}
 use Rattle.store_walk.proofs.Looked.{dir_not_free}
 use Rattle.store_walk.proofs.Depths.{bounded_trees, trees_bounded, flat_shallow}
 

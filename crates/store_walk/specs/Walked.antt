@@ -1,10 +1,10 @@
 -- What a look over a store's tree finds.
-use Rattle.std.specs.Prelude.{◌≡◌, ◌≢◌, ◌⊎◌, ◌++◌, ◌∷◌, [], ℕ, List, codes, length, None}
+use Rattle.std.specs.Prelude.{◌≡◌, ◌≢◌, ◌⊎◌, ◌∷◌, [], ℕ, List, codes, None}
 use Rattle.fs_names.specs.declared.coll.Coll.{Coll}
 use Rattle.fs_names.specs.declared.settings.Settings.{Settings}
 use Rattle.fs_names.specs.Reading.{CollFits}
 use Rattle.fs_names.specs.Text.{coll_text}
-use Rattle.tree_api.specs.Tree.{Path, Tree, IsDir, IsFile, IsFree, current}
+use Rattle.tree_api.specs.Tree.{Path, Tree, IsDir, IsFree, current}
 use Rattle.tree_api.specs.declared.tree.Entry.{Entry}
 use Rattle.lfn_index.specs.Changes.{aside}
 use Rattle.lfn_index.specs.Directory.{entry}

@@ -28,7 +28,7 @@ fn sweep_at<T: FileTree>(tree: &mut T, dir: &TreePath, entry: &Entry) -> Result<
         return Ok(());
     }
     let path = dir.join(entry.step.step(0))?;
-    let _stood = sweep(tree, &path)?;
+    sweep(tree, &path)?;
     Ok(())
 }
 

@@ -1,4 +1,4 @@
-use Rattle.std.proofs.Common.{◌≡◌, ◌++◌, ◌+◌, ◌-◌, ◌∙◌, inr, ℕ, List, sym, ap, refl, subst, length, OnOk, arith}
+use Rattle.std.proofs.Common.{◌≡◌, ◌++◌, ◌+◌, ◌-◌, ◌∙◌, inr, ℕ, sym, ap, refl, subst, length, OnOk, arith}
 use Rattle.index_fault.specs.declared.IndexFault.TheVariants.{Damaged}
 use Rattle.tree_api.specs.Tree.{Path, Tree, IsDir}
 use Rattle.tree_api.proofs.Moments.{still_joins}
