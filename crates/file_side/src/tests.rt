@@ -8,6 +8,7 @@ use tree_memory::MemoryTree;
 use tree_trials::add_dir;
 
 const PARTS: Parts = Parts {
+    fsid: [7; 16],
     set: Settings {
         merge: 10,
         split: 2,
