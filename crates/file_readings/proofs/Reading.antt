@@ -1,5 +1,5 @@
 -- What is read of an object's file.
-use Rattle.std.proofs.Common.{◌≡◌, ⊎_elim, ℕ, refl, sym, ◌∙◌, ap, subst, Option, Some, None, Result, Ok, Err}
+use Rattle.std.proofs.Common.{◌≡◌, ⊎_elim, ℕ, sym, ◌∙◌, ap, subst, Option, Some, None, Result, Ok, Err}
 use Rattle.std.specs.Option.{option_map}
 use Rattle.fs_names.specs.declared.coll.Coll.{Coll}
 use Rattle.fs_names.specs.declared.oid.Oid.{Oid}
@@ -24,17 +24,3 @@ one_read O c o t p f r P is here then_ =
     let e : Some is.0 ≡ Some here.0 = sym is.2 ∙ here.1 in
     let same : is.0 ≡ here.0 = cc in
     ap Some (then_ (t.node here.0) is.1 (subst (λ (n : ℕ). IsFileOf (t.node n) is.1) same is.4) here.2) ∙ sym (ap (option_map f) is.3)
-
--- a call on a file alone
-pub not_damaged : {T : Type 0} (r : Result T IndexFault) → IsFileAnswer r → (p : Path) → r ≡ Err (Damaged p) → ⊥
-not_damaged (Ok v) only p is = cc
-not_damaged (Err e) only p is = ⊎_elim (λ memory. memory_not memory) (λ tree. tree_not tree) only
-  where
-    e_is : e ≡ Damaged p
-    e_is = cc
-
-    memory_not : e ≡ Memory → ⊥
-    memory_not same = let z : Memory ≡ Damaged p = sym same ∙ e_is in cc
-
-    tree_not : e ≡ Refused → ⊥
-    tree_not same = let z : Refused ≡ Damaged p = sym same ∙ e_is in cc
