@@ -1,5 +1,5 @@
 -- The objects of files, gathered in a set and taken out of it in order.
-use Rattle.std.proofs.Common.{◌≡◌, ℕ, ◌<◌, ◌≤◌, Bool, true, false, cond, ◌||◌, List, [], ◌∷◌, ◌++◌, length, take, refl, sym, ◌∙◌, ap, arith, append_assoc, Option, Some, None}
+use Rattle.std.proofs.Common.{◌≡◌, ℕ, ◌<◌, ◌≤◌, Bool, true, false, cond, ◌||◌, List, [], ◌∷◌, ◌++◌, length, take, refl, sym, ◌∙◌, ap, arith, Option, Some, None}
 use Rattle.std.specs.Prelude.{◌↔◌, IsSome, slice_get}
 use Rattle.std.specs.List.{filter, list_any}
 use Rattle.std.specs.Ordering.{eq_by_cmp}

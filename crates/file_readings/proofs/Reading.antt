@@ -1,14 +1,11 @@
 -- What is read of an object's file.
-use Rattle.std.proofs.Common.{◌≡◌, ⊎_elim, ℕ, sym, ◌∙◌, ap, subst, Option, Some, None, Result, Ok, Err}
+use Rattle.std.proofs.Common.{◌≡◌, ℕ, sym, ◌∙◌, ap, subst, Option, Some, None}
 use Rattle.std.specs.Option.{option_map}
 use Rattle.fs_names.specs.declared.coll.Coll.{Coll}
 use Rattle.fs_names.specs.declared.oid.Oid.{Oid}
 use Rattle.fs_model.specs.Objects.{Object, Objects, look}
 use Rattle.tree_api.specs.Tree.{Path, Version, Tree}
-use Rattle.index_fault.specs.declared.IndexFault.{IndexFault}
-use Rattle.index_fault.specs.declared.IndexFault.TheVariants.{Memory, Damaged, Tree as Refused}
 use Rattle.object_file.specs.Passing.{Here}
-use Rattle.object_file.specs.Counts.{IsFileAnswer}
 use Rattle.tree_shows.specs.Shows.{IsFileOf}
 use Rattle.file_readings.specs.Finding.{IsPathOf}
 
