@@ -1,0 +1,4 @@
+pub mod Store
+pub mod Holds
+pub mod Faults
+pub mod Mounts
