@@ -12,9 +12,12 @@ use Rattle.history_tails.specs.Tails.{with_more}
 abbrev pub waiting_ops : List Queued → List (List Op)
 waiting_ops ws = map (λ q. q.txn.ops) ws
 
+none_here : (q : Queued) (xs : List Queued) → ◌≡◌ {A = List Queued} [] (q ∷ xs) → ⊥
+none_here q xs e = absurd (cc)
+
 place_of : (ws : List Queued) (i : ℕ) (q : Queued) → IsAt ws i q → get_or (waiting_ops ws) i [] ≡ q.txn.ops
-place_of [] zero q at = absurd (let bad : ◌≡◌ {A = List Queued} [] (q ∷ []) = at in cc)
-place_of [] (suc i) q at = absurd (let bad : ◌≡◌ {A = List Queued} [] (q ∷ []) = at in cc)
+place_of [] zero q at = absurd (none_here q (drop 1 []) at)
+place_of [] (suc i) q at = absurd (none_here q (drop (suc i + 1) []) at)
 place_of (w ∷ ws) zero q at = ap (λ (x : Queued). x.txn.ops) (first w q ws (drop 1 (w ∷ ws)) at)
   where
     first : (a b : Queued) (xs ys : List Queued) → a ∷ xs ≡ b ∷ ys → a ≡ b
@@ -24,8 +27,8 @@ place_of (w ∷ ws) (suc i) q at =
     place_of ws i q (at ∙ ap (λ (k : ℕ). q ∷ drop k (w ∷ ws)) next)
 
 place_in : (ws : List Queued) (i : ℕ) (q : Queued) → IsAt ws i q → i < length ws
-place_in [] zero q at = absurd (let bad : ◌≡◌ {A = List Queued} [] (q ∷ []) = at in cc)
-place_in [] (suc i) q at = absurd (let bad : ◌≡◌ {A = List Queued} [] (q ∷ []) = at in cc)
+place_in [] zero q at = absurd (none_here q (drop 1 []) at)
+place_in [] (suc i) q at = absurd (none_here q (drop (suc i + 1) []) at)
 place_in (w ∷ ws) zero q at = omega arith
 place_in (w ∷ ws) (suc i) q at =
     let next : suc i + 1 ≡ suc (i + 1) = omega arith in

@@ -1,5 +1,5 @@
 -- What both sides hold of a history they hold of a longer one.
-use Rattle.std.proofs.Common.{◌≡◌, ℕ, zero, suc, ◌+◌, ◌-◌, ◌<◌, ◌≤◌, ◌^◌, List, [], ◌∷◌, ◌++◌, take, drop, length, map, refl, sym, ◌∙◌, ap, subst, arith, append-nil, append_assoc, length-append, length-drop, length-map}
+use Rattle.std.proofs.Common.{◌≡◌, ℕ, zero, suc, ◌+◌, ◌-◌, ◌<◌, ◌≤◌, ◌^◌, List, [], ◌∷◌, ◌++◌, take, drop, length, map, refl, sym, ◌∙◌, ap, subst, arith, append-nil, append_assoc, length-append, length-drop}
 use Rattle.std.proofs.lemmas.List.{take-append-le, drop-append-le}
 use Rattle.fs_names.specs.declared.settings.Settings.{Settings}
 use Rattle.fs_model.specs.declared.op.Op.{Op}
@@ -50,7 +50,11 @@ ring_longer fsid h ops p synced hi s d side = record {
   asked = subst (Spells side.all) (sym (part_longer h ops p hi side.base (omega (arith, side.low, side.high)) side.fits)) side.asked;
 }
 
-module _ (set : Settings) (fsid : List ℕ) (core : Numbers) (t : Files) (sound : t.may t.tree) (s : State) (d : Disk) where
+abbrev pub LongerLaw : Type 0
+LongerLaw = (set : Settings) (h : History) (ops : List Op) (n lo hi : ℕ) (t : Tree) → AreAllowed (at h (end_of h)) ops → CanDo ops
+    → lo ≤ hi → hi ≤ end_of h → Image set h n lo hi t → Image set (with_txn h ops) n lo hi t
+
+module _ (longer_law : LongerLaw) (set : Settings) (fsid : List ℕ) (core : Numbers) (t : Files) (sound : t.may t.tree) (s : State) (d : Disk) where
   pub holding_one : (h : History) (ops : List Op) → AreAllowed (at h (end_of h)) ops → CanDo ops → end_of h + 1 < 2 ^ 63
       → Holding (Image set) (reads set) fsid h core t s d → Holding (Image set) (reads set) fsid (with_txn h ops) core t s d
   holding_one h ops allowed can small k =
@@ -60,8 +64,8 @@ module _ (set : Settings) (fsid : List ℕ) (core : Numbers) (t : Files) (sound 
       let now : Image set h n m m t.tree = (theory_law set).whole h n n m t.tree low (k.images t.tree sound) k.reads in
       record {
         small = omega (arith, small, end_longer h ops);
-        images = λ u may. history_law.longer set h ops n n m u allowed can low k.ring.fits (k.images u may);
-        reads = (history_law.longer set h ops n m m t.tree allowed can (omega arith) k.ring.fits now).past;
+        images = λ u may. longer_law set h ops n n m u allowed can low k.ring.fits (k.images u may);
+        reads = (longer_law set h ops n m m t.tree allowed can (omega arith) k.ring.fits now).past;
         ring = ring_longer fsid h ops n m m s d k.ring;
       }
 
@@ -74,21 +78,27 @@ module _ (set : Settings) (fsid : List ℕ) (core : Numbers) (t : Files) (sound 
   holding_more h [] all can small k =
       subst (λ (l : List (List Op)). Holding (Image set) (reads set) fsid (record { base = h.base; origin = h.origin; txns = l }) core t s d) (sym (append-nil h.txns)) k
   holding_more h (ops ∷ txns) (here, all) can small k =
+      let next : (j : ℕ) → suc (j + 1) ≡ suc j + 1 = λ j. omega arith in
       let one = holding_one h ops here (can 0 ops refl) (omega (arith, small)) k in
       let after : at (with_txn h ops) (end_of (with_txn h ops)) ≡ fold_ops (at h (end_of h)) ops = at_more h (ops ∷ []) in
       let rest : AllAllowed (at (with_txn h ops) (end_of (with_txn h ops))) txns = subst (λ (O : Objects). AllAllowed O txns) (sym after) all in
       subst (λ (g : History). Holding (Image set) (reads set) fsid g core t s d) (again h ops txns)
-      (holding_more (with_txn h ops) txns rest (λ i q at. can (suc i) q (at ∙ ap (λ (k : ℕ). q ∷ drop k (ops ∷ txns)) (omega arith)))
+      (holding_more (with_txn h ops) txns rest (λ i q is. can (suc i) q (is ∙ ap (λ (k : ℕ). q ∷ drop k (ops ∷ txns)) (next i)))
       (omega (arith, small, end_longer h ops)) one)
+
+none_here : (ops : List Op) (xs : List (List Op)) → ◌≡◌ {A = List (List Op)} [] (ops ∷ xs) → ⊥
+none_here ops xs e = absurd (cc)
 
 -- each that waits can be done
 pub meets : (ws : List Queued) → AllMeet CanDo ws → (i : ℕ) (ops : List Op) → drop i (waiting_ops ws) ≡ ops ∷ drop (i + 1) (waiting_ops ws) → CanDo ops
-meets [] all zero ops at = absurd (let bad : ◌≡◌ {A = List (List Op)} [] (ops ∷ []) = at in cc)
-meets [] all (suc i) ops at = absurd (let bad : ◌≡◌ {A = List (List Op)} [] (ops ∷ []) = at in cc)
-meets (w ∷ ws) all zero ops at = subst CanDo (first w.txn.ops ops (waiting_ops ws) (drop 1 (waiting_ops (w ∷ ws))) at) (all 0 w refl)
+meets [] all zero ops is = absurd (none_here ops (drop 1 []) is)
+meets [] all (suc i) ops is = absurd (none_here ops (drop (suc i + 1) []) is)
+meets (w ∷ ws) all zero ops is = subst CanDo (first w.txn.ops ops (waiting_ops ws) (drop 1 (waiting_ops (w ∷ ws))) is) (all 0 w refl)
   where
     first : (a b : List Op) (xs ys : List (List Op)) → a ∷ xs ≡ b ∷ ys → a ≡ b
     first a b xs ys e = cc
-meets (w ∷ ws) all (suc i) ops at =
-    meets ws (λ j q is. all (suc j) q (is ∙ ap (λ (k : ℕ). q ∷ drop k (w ∷ ws)) (omega arith))) i ops
-    (at ∙ ap (λ (k : ℕ). ops ∷ drop k (waiting_ops (w ∷ ws))) (let next : suc i + 1 ≡ suc (i + 1) = omega arith in next))
+meets (w ∷ ws) all (suc i) ops is =
+    let next : (j : ℕ) → suc (j + 1) ≡ suc j + 1 = λ j. omega arith in
+    let back : suc i + 1 ≡ suc (i + 1) = omega arith in
+    meets ws (λ j q here. all (suc j) q (here ∙ ap (λ (k : ℕ). q ∷ drop k (w ∷ ws)) (next j))) i ops
+    (is ∙ ap (λ (k : ℕ). ops ∷ drop k (waiting_ops (w ∷ ws))) back)

@@ -1,13 +1,15 @@
 -- Transactions that wait behind a history.
-use Rattle.std.proofs.Common.{◌≡◌, ℕ, ◌+◌, Bool, true, false, not, ◌&&◌, ◌||◌, cond, List, [], ◌∷◌, ◌++◌, length, Option, Some, None, refl, sym, ◌∙◌, ap, subst, arith, append-nil, zero-add}
+use Rattle.std.proofs.Common.{◌≡◌, ◌==◌, if◌then◌else◌, ℕ, ◌+◌, Bool, true, false, not, ◌&&◌, ◌||◌, cond, List, [], ◌∷◌, ◌++◌, length, take, slice_get, Option, Some, None, refl, sym, ◌∙◌, ap, subst, arith, append-nil, zero-add}
 use Rattle.std.specs.List.{list_all, list_any}
-use Rattle.std.specs.Option.{option_or, option_map}
+use Rattle.std.specs.Option.{option_or, option_map, option_and_then}
 use Rattle.std.specs.FinMap as fin
 use Rattle.std.specs.FinSet as set
 use Rattle.std.proofs.lemmas.List.Sums.{fold-append}
 use Rattle.fs_names.specs.declared.coll.Coll.{Coll}
 use Rattle.fs_model.specs.declared.op.Op.{Op}
 use Rattle.fs_model.specs.declared.op.Why.{Why}
+use Rattle.fs_model.specs.declared.op.Why.TheVariants.{NoCollection, CollectionExists, SameObject, TooBig, TooMany}
+use Rattle.fs_model.specs.Limits.{ops_limit}
 use Rattle.fs_model.specs.Named.{needed}
 use Rattle.fs_model.specs.Objects.{Objects}
 use Rattle.fs_model.specs.Colls.{CollSet, colls_of}
@@ -24,23 +26,23 @@ use Rattle.tree_places.proofs.Flat.{ops_append, fold_flat}
 use Rattle.history_tails.specs.Tails.{begun, with_more, WaitBehind}
 use Rattle.history_tails.proofs.Tails.{at_end, at_more}
 
+both : (a b : Bool) → not a || b ≡ false → (a ≡ true) × (b ≡ false)
+both true b e = (refl, e)
+both false b e = absurd (cc)
+
 -- an operation that isn't refused finds each collection that it needs
 none_missing : (f g : Coll → Bool) → ((c : Coll) → f c ≡ g c) → (cs : List Coll) → list_any (λ c. not (f c)) cs ≡ false → list_all g cs ≡ true
 none_missing f g same [] none = refl
-none_missing f g same (c ∷ cs) none = at (f c) refl
-  where
-    at : (b : Bool) → f c ≡ b → g c && list_all g cs ≡ true
-    at true is =
-        let rest : list_any (λ d. not (f d)) cs ≡ false = sym (ap (λ (x : Bool). not x || list_any (λ d. not (f d)) cs) is) ∙ none in
-        ap (λ (x : Bool). x && list_all g cs) (sym (same c) ∙ is) ∙ none_missing f g same cs rest
-    at false is = absurd (let bad : true ≡ false = sym (ap (λ (x : Bool). not x || list_any (λ d. not (f d)) cs) is) ∙ none in cc)
+none_missing f g same (c ∷ cs) none =
+    let two = both (f c) (list_any (λ d. not (f d)) cs) none in
+    ap (λ (x : Bool). x && list_all g cs) (sym (same c) ∙ two.0) ∙ none_missing f g same cs two.1
 
 not_lacking : (S : CollSet) (k : ℕ) (op : Op) → refusal_at S k op ≡ None → lacks S op ≡ false
-not_lacking S k op none = at (lacks S op) refl
+not_lacking S k op none = at (lacks S op) none
   where
-    at : (b : Bool) → lacks S op ≡ b → b ≡ false
+    at : (b : Bool) → option_or (if b then Some NoCollection else (if remakes S op then Some CollectionExists else (if same_object op then Some SameObject else (if too_big op then Some TooBig else None)))) (if k == ops_limit then Some TooMany else None) ≡ None → b ≡ false
     at false is = refl
-    at true is = absurd (grind (is, none))
+    at true is = absurd (cc)
 
 first_none : (r : Option Why) (k : ℕ) (later : Option (ℕ × Why)) → option_or (option_map (λ why. (k, why)) r) later ≡ None → (r ≡ None) × (later ≡ None)
 first_none None k later e = (refl, e)
@@ -61,7 +63,7 @@ allowed_of O ops accepted =
     allowed_from O 0 ops (no_refusal (colls_of O) 0 ops none)
   where
     at : (j : ℕ) → fault_at (colls_of O) ops j ≡ None → faults_from (colls_of O) 0 ops j ≡ None
-    at j none = grind (none, zero-add j)
+    at j none = ap (λ (n : ℕ). option_and_then (refusal_at (colls_after (colls_of O) (take j ops)) n) (slice_get ops j)) (zero-add j) ∙ none
 
 all_more : (O : Objects) (txns : List (List Op)) (ops : List Op) → AllAllowed O txns → AreAllowed (fold_txns O txns) ops → AllAllowed O (txns ++ ops ∷ [])
 all_more O [] ops all one = (one, tt)
