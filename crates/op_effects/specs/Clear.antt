@@ -24,3 +24,7 @@ pub record IsClear (t : Tree) : Type 0 where
 -- what is free or a file stays so
 abbrev pub KeepsFree : Tree → Tree → Type 0
 KeepsFree e f = (q : Path) → IsFree e q → IsFree f q
+
+-- and nothing comes in the way
+abbrev pub KeepsClear : Tree → Tree → Type 0
+KeepsClear e f = IsClear e → IsClear f

@@ -23,7 +23,8 @@ use Rattle.tree_stands.proofs.Trees.{maps, maps_are}
 use Rattle.store_history.specs.History.{History, end_of}
 use Rattle.store_turns.specs.declared.numbers.How.{How}
 use Rattle.store_turns.specs.declared.numbers.How.TheVariants.{Live, Replay}
-use Rattle.op_effects.specs.Ready.{HasColls, OffStays, KeepsPlaces}
+use Rattle.op_effects.specs.Clear.{KeepsClear, KeepsFree}
+use Rattle.op_effects.specs.Ready.{HasColls, OffStays}
 use Rattle.op_effects.specs.Collections.{Makes, Drops}
 use Rattle.op_places.specs.Laws.{EditsOne}
 use Rattle.op_places.specs.Places.{is_there}
@@ -44,18 +45,20 @@ both_keep P Q R old new one two f = record {
   before = λ t c le left. ⊎_elim (λ was. inl was) (λ p. ⊎_elim (λ was. inl was) (λ q. inr (f c p q)) (two.before t c le left)) (one.before t c le left);
 }
 
--- what is the store's own stays where a step keeps it
+-- what is the store's own stays where a step keeps it,
 module _ (set : Settings) (h : History) (n lo hi : ℕ) (old new : Disk) (images : Everywhere old (Image set h n lo hi)) where
-  pub own_keeps : Moves OwnStays old new → Keeps (OwnIs n) old new
-  own_keeps moves = weaker (From old OwnStays) (OwnIs n) old new moves (λ f from.
-      let is = images from.0 from.1 in
-      own_law.stays from.0 f n from.2 is.own is.number)
-
-  -- and where it is told apart of directories and of what is built
-  pub own_keeps_off : (c : Coll) → Moves (OffStays (dir_of c)) old new → Moves KeepsPlaces old new → Keeps (OwnIs n) old new
-  own_keeps_off c off places = both_keep (From old (OffStays (dir_of c))) (From old KeepsPlaces) (OwnIs n) old new off places (λ f one two.
+  -- with that nothing comes in the way told apart
+  pub own_keeps : (R : Tree → Tree → Type 0) → ((e f : Tree) → KeepsClear e f → R e f → OwnStays e f) → Moves R old new → Moves KeepsClear old new → Keeps (OwnIs n) old new
+  own_keeps R stays moves clear = both_keep (From old R) (From old KeepsClear) (OwnIs n) old new moves clear (λ f one two.
       let is = images one.0 one.1 in
-      own_dirs c one.0 f n one.2 is.own is.number (λ step. two.2 step ((images two.0 two.1).own.places step)))
+      let clear_then = two.2 (images two.0 two.1).own.clear in
+      own_law.stays one.0 f n (stays one.0 f (λ was. clear_then) one.2) is.own is.number)
+
+  -- or that no directory does
+  pub own_keeps_off : (c : Coll) → Moves (OffStays (dir_of c)) old new → Moves KeepsFree old new → Keeps (OwnIs n) old new
+  own_keeps_off c off free = both_keep (From old (OffStays (dir_of c))) (From old KeepsFree) (OwnIs n) old new off free (λ f one two.
+      let is = images one.0 one.1 in
+      own_dirs c one.0 two.0 f n one.2 two.2 is.own (images two.0 two.1).own is.number)
 
   -- so images stay, where their places do
   pub image_keeps : h.base ≤ lo → Keeps (At set h (count_to h lo) hi) old new → Keeps (OwnIs n) old new → Keeps (Image set h n lo hi) old new

@@ -1,7 +1,8 @@
 -- What a tree shows of a store's history, and of the store itself.
-use Rattle.std.specs.Prelude.{◌≤◌, ℕ, ◌∷◌, ◌++◌, [], List, codes}
+use Rattle.std.specs.Prelude.{◌≤◌, ℕ, List}
 use Rattle.fs_names.specs.declared.settings.Settings.{Settings}
-use Rattle.tree_api.specs.Tree.{Path, Tree, IsDir, IsFree, current}
+use Rattle.tree_api.specs.Tree.{Tree, IsDir, IsFree}
+use Rattle.op_effects.specs.Clear.{IsClear}
 use Rattle.op_effects.specs.Ready.{trash}
 use Rattle.lfn_index.specs.Changes.{aside}
 use Rattle.lfn_index.specs.Directory.{entry}
@@ -12,12 +13,14 @@ use Rattle.store_turns.specs.declared.numbers.How.TheVariants.{Live, Replay}
 use Rattle.store_turns.specs.Theory.{Reads}
 use Rattle.tree_places.specs.Line.{Past}
 
--- the store's own directories are there, no directory is in the way of a file that is built, nor of the committed number
+-- the store's own directories are there, no directory is in the way of a file that is built, nor of the committed number, and
+-- nothing in that of an operation
 pub record IsOwn (t : Tree) : Type 0 where
   pub building : IsDir t aside
   pub places : (step : List ℕ) → IsFree t (entry aside step)
   pub removed : IsDir t trash
   pub target : IsFree t number_path
+  pub clear : IsClear t
 
 -- and no collection has damage
 pub record IsLaid (set : Settings) (t : Tree) : Type 0 where
