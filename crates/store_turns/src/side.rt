@@ -9,7 +9,7 @@ ghost use Rattle.store_history.specs.History.{History};
 ghost use Rattle.store_history.specs.Images.{Images};
 ghost use Rattle.store_turns.specs.declared.numbers.How.{How};
 ghost use Rattle.store_turns.specs.Theory.{Reads, Theory};
-ghost use Rattle.store_turns.specs.Calls.{WhereNext, WhereDone};
+ghost use Rattle.store_turns.specs.Calls.{WhereNext, WhereDone, WhereImages};
 
 use crate::numbers::How;
 use fs_model::Op;
@@ -97,6 +97,28 @@ pub trait Side<T: FileTree> {
         ensures some { T.tells tree.new → IfOk result (λ o. IfSome o (λ n. number (T.disk tree.old).tree n)) }
         ensures none { T.tells tree.new → IfOk result (λ o. IfNone o ((n : ℕ) → number (T.disk tree.old).tree n → ⊥)) }
         ensures small { IfOk result (λ o. IfSome o (λ n. n < 2 ^ 63)) }
+        ensures told { T.tells tree.new → T.tells tree.old }
+        ensures faults { (T.disk tree.old).faults ≤ (T.disk tree.new).faults }
+        ensures undamaged { T.tells tree.new → (p : Path) → result ≢ Err (IndexFault.Damaged p) }
+        ensures cause { IsErrOf result IndexFault.Tree → Counted (T.disk tree.old).faults (T.disk tree.new).faults };
+
+    /// Whether transactions may be done on the tree as it reads. `Damaged` names what is in the way.
+    fn look_over(&self, alloc: Global, tree: &mut T) -> Result<(), IndexFault>
+        ensures laid { T.tells tree.new → OnOk result (laid (set self.now) (T.disk tree.old).tree) }
+        ensures damaged { T.tells tree.new → (p : Path) → IsErrOf result (IndexFault.Damaged p) → laid (set self.now) (T.disk tree.old).tree → ⊥ }
+        ensures still { T.tells tree.new → Still (T.disk tree.old) (T.disk tree.new) }
+        ensures told { T.tells tree.new → T.tells tree.old }
+        ensures faults { (T.disk tree.old).faults ≤ (T.disk tree.new).faults }
+        ensures cause { IsErrOf result IndexFault.Tree → Counted (T.disk tree.old).faults (T.disk tree.new).faults };
+
+    /// Takes away what is left of files that were being built.
+    fn tidy(&self, alloc: Global, tree: &mut T) -> Result<(), IndexFault>
+        requires ready { T.tells tree.old → ready (set self.now) (T.disk tree.old) }
+        ensures ready { T.tells tree.new → OnOk result (ready (set self.now) (T.disk tree.new)) }
+        ensures keeps { T.tells tree.new → WhereImages (image (set self.now)) (T.disk tree.old)
+            (λ h n lo hi. Keeps (image (set self.now) h n lo hi) (T.disk tree.old) (T.disk tree.new)) }
+        ensures reads { T.tells tree.new → (how : How) (h : History) (m : ℕ)
+            → reads (set self.now) how h m (T.disk tree.old).tree → reads (set self.now) how h m (T.disk tree.new).tree }
         ensures told { T.tells tree.new → T.tells tree.old }
         ensures faults { (T.disk tree.old).faults ≤ (T.disk tree.new).faults }
         ensures undamaged { T.tells tree.new → (p : Path) → result ≢ Err (IndexFault.Damaged p) }
