@@ -1,0 +1,3 @@
+mod Draining
+pub mod Shown
+pub mod Stilled

@@ -1,0 +1,3 @@
+mod Off
+mod Made
+mod Orders
