@@ -9,18 +9,17 @@ use Rattle.tree_api.specs.Disk.{Disk, Sound, Stays, Keeps, Leaves}
 use Rattle.tree_stands.specs.Names.{Name, NameFits, coll_fits}
 use Rattle.tree_stands.specs.Standing.{ObjectCrash}
 use Rattle.tree_stands.specs.Trees.{dir_of, dir_guard, guard_of, ForObject}
-use Rattle.op_effects.specs.Clear.{IsClear, KeepsFree}
-use Rattle.op_effects.specs.Ready.{Ready, OffStays, trash}
+use Rattle.op_effects.specs.Clear.{KeepsFree}
+use Rattle.op_effects.specs.Ready.{Ready, OffStays}
 use Rattle.object_ops.proofs.Standing.{ready_stays}
 use Rattle.op_places.specs.Places.{is_there}
-use Rattle.tree_places.specs.Images.{Image}
+use Rattle.tree_places.specs.Images.{IsOwn, Image}
 use Rattle.tree_places.specs.Underway.{Underway}
 use Rattle.tree_places.proofs.Own.{own_law}
 use Rattle.tree_places.proofs.Underway.{looks_on, skips_on, edit_stops, edits_on, own_keeps_off}
 use Rattle.apply_ops.specs.Editing.{edited, file_after}
 use Rattle.apply_ops.specs.Next.{Spot, IsNext, IsReady}
 use Rattle.apply_ops.proofs.Rows.{row_of, edits_one, names_one}
-use Rattle.apply_ops.proofs.Sites.{trash_stays}
 
 -- what follows where a call answered Ok
 pub then_ok : {T E A B : Type 0} (r : Result T E) → (A → B) → OnOk r A → OnOk r B
@@ -45,14 +44,12 @@ guard_missing t n none = ap (λ (o : Option ℕ). coll_fits n.coll && is_some (o
 pub all_stays : (set : Settings) (old mid : Disk) → Stays old mid → IsReady set old → IsReady set mid
 all_stays set old mid stays is = record {
   ready = ready_stays old mid stays set is.ready;
-  removed = subst (λ (t : Tree). IsDir t trash) (sym stays.tree) is.removed;
-  clear = subst IsClear (sym stays.tree) is.clear;
+  own = subst IsOwn (sym stays.tree) is.own;
 }
 
 pub all_edited : (set : Settings) (c : Coll) (mid new : Disk) → IsReady set mid → Leaves (OffStays (dir_of c)) mid new → Leaves KeepsFree mid new → Ready set new → IsReady set new
 all_edited set c mid new is off free ready =
-    let own = own_law.off c mid.tree new.tree off.now free.now in
-    record { ready = ready; removed = trash_stays mid.tree new.tree own is.removed; clear = own.clear is.clear }
+    record { ready = ready; own = own_law.keeps mid.tree new.tree (own_law.off c mid.tree new.tree off.now free.now) is.own }
 
 module _ (set : Settings) (s : Spot) (op : Op) (old mid : Disk) (stays : Stays old mid) (next : IsNext set s op old) where
   now_mid : Underway set s.how s.h s.n s.lo s.hi s.seq s.i old mid

@@ -1,5 +1,5 @@
 -- Making a collection and taking one away leave the store's own directories and number.
-use Rattle.std.proofs.Common.{◌≡◌, ◌⊎◌, inl, inr, ⊎_elim, ℕ, List, [], ◌∷◌, codes, Bool, true, false, refl, sym, ◌∙◌, ap, subst, Option, Some, None}
+use Rattle.std.proofs.Common.{◌≡◌, ◌⊎◌, inl, inr, ⊎_elim, ℕ, List, [], ◌∷◌, codes, Bool, false, refl, sym, ◌∙◌, ap, subst, Option, Some, None}
 use Rattle.fs_names.specs.declared.coll.Coll.{Coll}
 use Rattle.fs_names.specs.declared.settings.Pos.{Pos}
 use Rattle.fs_names.specs.Reading.{CollFits}
@@ -42,9 +42,6 @@ module _ (e f : Tree) (q : Path) (same : look f q ≡ look e q) where
       let there = stands f q (e.node was.0) (f.at q) refl (same ∙ ap (λ (o : Option ℕ). held o e.node) was.1) in
       (there.0, there.1, ap (λ (v : Version). v.dir) there.2 ∙ was.2)
 
-  pub dir_stays : IsDir e q → IsDir f q
-  dir_stays was = same_kind true was
-
   pub free_stays : IsFree e q → IsFree f q
   free_stays (inl none) = inl (nothing f q (f.at q) refl (same ∙ ap (λ (o : Option ℕ). held o e.node) none))
   free_stays (inr file) = inr (same_kind false file)
@@ -80,9 +77,6 @@ module _ (c : Coll) (fits : CollFits c) where
     places = λ s. free_stays e f (entry aside s) (goes (entry aside s) (⊎_elim (off_place c fits s) (place_trash pos s)));
     clear = clear;
   }
-
-pub trash_stays : (e f : Tree) → OwnStays e f → IsDir e trash → IsDir f trash
-trash_stays e f own was = dir_stays e f trash own.removed was
 
 -- `current` is a directory where `aside` is one
 pub current_there : (d : Disk) → Sound d → IsDir d.tree aside → IsDir d.tree current

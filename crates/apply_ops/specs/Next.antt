@@ -2,20 +2,17 @@
 use Rattle.std.specs.Prelude.{◌≡◌, ◌+◌, ◌-◌, ℕ, List, slice_get, Some, Result, OnOk}
 use Rattle.fs_names.specs.declared.settings.Settings.{Settings}
 use Rattle.fs_model.specs.declared.op.Op.{Op}
-use Rattle.tree_api.specs.Tree.{IsDir}
 use Rattle.tree_api.specs.Disk.{Disk, Everywhere, Keeps}
-use Rattle.op_effects.specs.Clear.{IsClear}
-use Rattle.op_effects.specs.Ready.{Ready, trash}
+use Rattle.op_effects.specs.Ready.{Ready}
 use Rattle.store_history.specs.History.{History}
 use Rattle.store_turns.specs.declared.numbers.How.{How}
-use Rattle.tree_places.specs.Images.{Image, reads}
+use Rattle.tree_places.specs.Images.{IsOwn, Image, reads}
 use Rattle.tree_places.specs.Underway.{IsTurn, Underway}
 
--- any operation may be done, and nothing is in its way
+-- any operation may be done, and what is the store's own stands
 pub record IsReady (set : Settings) (d : Disk) : Type 0 where
   pub ready : Ready set d
-  pub removed : IsDir d.tree trash
-  pub clear : IsClear d.tree
+  pub own : IsOwn d.tree
 
 -- a place in a history: that of the operation at i of the transaction seq, with which images go along from lo to hi
 pub record Spot : Type 0 where

@@ -1,5 +1,5 @@
 -- Nothing comes in the way where collections come and go.
-use Rattle.std.proofs.Common.{◌≡◌, ◌≢◌, ◌⊎◌, inl, inr, ⊎_elim, ℕ, ◌+◌, Bool, List, [], ◌++◌, length, refl, sym, ◌∙◌, ap, subst, arith, Some, None}
+use Rattle.std.proofs.Common.{◌≡◌, ◌≢◌, ◌⊎◌, inl, inr, ⊎_elim, ℕ, ◌+◌, Bool, true, List, [], ◌∷◌, ◌++◌, length, refl, sym, ◌∙◌, ap, subst, arith, Some, None}
 use Rattle.std.proofs.lemmas.List.{length-append}
 use Rattle.fs_names.specs.declared.coll.Coll.{Coll}
 use Rattle.fs_names.specs.declared.settings.Pos.{Pos}
@@ -15,7 +15,7 @@ use Rattle.lfn_index.specs.Moving.{Same}
 use Rattle.tree_stands.specs.Trees.{dir_of}
 use Rattle.op_effects.specs.Clear.{DirBelow, IsClear, IsShallow, KeepsClear}
 use Rattle.op_effects.specs.Ready.{trash}
-use Rattle.op_effects.proofs.Clear.{FilesFrom, clear_by, never_both}
+use Rattle.op_effects.proofs.Clear.{FilesFrom, clear_by, free_by, never_both}
 use Rattle.coll_ops.specs.Changes.{AddsDir, DirAt, NewDir, Swept, Sweeps, Thrown, Throws}
 use Rattle.coll_ops.specs.Places.{trash_at, Within}
 use Rattle.coll_ops.proofs.Coming.{such_keeps}
@@ -58,9 +58,15 @@ module _ (coll : Coll) (fits : CollFits coll) (old new : Disk) (s0 : Sound old) 
     shallow : (p : Path) → IsShallow p a → IsShallow p c
     shallow p was q is = was q (is.0, is.1, is.2, stood a c q (keeps q (off_deep p q is)) _ is.3)
 
+    off_entry : (d : Coll) (step : List ℕ) → entry (dir_of d) step ≢ dir_of coll
+    off_entry d step same =
+        let e : 3 ≡ 2 = ap length same in
+        absurd (omega (arith, e))
+
     comes_clear : KeepsClear a c
     comes_clear was = record {
       free = λ d of_d is. was.free d of_d (files d of_d is);
+      flat = λ d of_d step. free_by a c (entry (dir_of d) step) (stood a c (entry (dir_of d) step) (keeps (entry (dir_of d) step) (off_entry d step)) true) (was.flat d of_d step);
       colls = λ d of_d. shallow (dir_of d) (was.colls d of_d);
       trees = λ step. shallow (entry trash step) (was.trees step);
     }
@@ -130,6 +136,7 @@ module _ (old : Disk) (a c : Tree) (at : a.at ≡ old.tree.at) (others : (m : �
     thrown_clear_by : KeepsClear a c
     thrown_clear_by was = record {
       free = λ d of_d is. was.free d of_d (still_from (dir_of d) (in_any d of_d (dir_of d) ([], refl)) _ is);
+      flat = λ d of_d step. free_by a c (entry (dir_of d) step) (still_from (entry (dir_of d) step) (in_any d of_d (entry (dir_of d) step) (step ∷ [], refl)) true) (was.flat d of_d step);
       colls = λ d of_d q is. was.colls d of_d q (is.0, is.1, is.2, still_from q (in_any d of_d q (is.0, is.1)) _ is.3);
       trees = tree_deep was;
     }

@@ -1,9 +1,10 @@
 // The tree's side of a store of files.
 ghost use Rattle.std.specs.Prelude.{◌≡◌, ◌≢◌, ◌⊎◌, ◌↔◌, ℕ, ◌-◌, ◌<◌, ◌≤◌, ◌^◌, List, Err, IfOk, OnOk, IfSome, IfNone, IsTrue, IsOk, IsErr, IsErrOf};
-ghost use Rattle.fs_names.specs.declared.settings.Settings.{Settings};
 ghost use Rattle.built_ops.specs.Built.{CanDo};
 ghost use Rattle.commit_point.specs.Number.{HasNumber};
-ghost use Rattle.tree_places.specs.Images.{Image, IsLaid, reads};
+ghost use Rattle.tree_places.specs.Images.{Image, IsLaid, reads as tree_reads};
+ghost use Rattle.tree_places.proofs.Ready.{ready as ready_alone};
+ghost use Rattle.tree_places.proofs.Theory.{theory_law};
 ghost use Rattle.apply_ops.specs.Next.{IsReady};
 
 use apply_ops::apply_all;
@@ -27,7 +28,7 @@ impl<T: FileTree> Side<T> for Parts {
 
     ghost image = { Image };
 
-    ghost reads = { reads };
+    ghost reads = { tree_reads };
 
     ghost number = { HasNumber };
 
@@ -71,4 +72,8 @@ impl<T: FileTree> Side<T> for Parts {
     fn tidy(&self, alloc: Global, tree: &mut T) -> Result<(), IndexFault> {
         store_walk::tidy(alloc, tree)
     }
+
+    ghost ready_is = { λ s t tells laid only. record { ready = ready_alone s (T.disk t) (T.sound t tells) only laid; own = laid.own } };
+
+    ghost theory = { theory_law };
 }

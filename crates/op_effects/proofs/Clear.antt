@@ -41,6 +41,18 @@ dir_from e f q keeps dir = by (e.at q) refl
     by None here = absurd (never_both f q (keeps (inl here)) dir)
     by (Some n) here = kind n here (e.node n).dir refl
 
+-- and the other way round
+pub free_by : (e f : Tree) (q : Path) → (IsDir f q → IsDir e q) → IsFree e q → IsFree f q
+free_by e f q dirs free = by (f.at q) refl
+  where
+    kind : (n : ℕ) → f.at q ≡ Some n → (b : Bool) → (f.node n).dir ≡ b → IsFree f q
+    kind n here true is = absurd (never_both e q free (dirs (n, here, is)))
+    kind n here false is = inr (n, here, is)
+
+    by : (o : Option ℕ) → f.at q ≡ o → IsFree f q
+    by None here = inl here
+    by (Some n) here = kind n here (f.node n).dir refl
+
 pub dirs_from : (e f : Tree) → KeepsFree e f → DirsFrom e f
 dirs_from e f keeps q dir = dir_from e f q (keeps q) dir
 
@@ -51,6 +63,7 @@ below_from g f dirs n p q is = (is.0, is.1, is.2, dirs q is.3)
 pub clear_from : (e g f : Tree) → FilesFrom e f → DirsFrom g f → IsClear e → IsClear g → IsClear f
 clear_from e g f files dirs one two = record {
   free = λ c fits file. one.free c fits (files c fits file);
+  flat = λ c fits step. free_by g f (entry (dir_of c) step) (dirs (entry (dir_of c) step)) (two.flat c fits step);
   colls = λ c fits q is. two.colls c fits q (below_from g f dirs 9 (dir_of c) q is);
   trees = λ step q is. two.trees step q (below_from g f dirs 9 (entry trash step) q is);
 }

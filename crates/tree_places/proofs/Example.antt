@@ -91,6 +91,7 @@ module _ (set : Settings) (n : ℕ) where
   clear : IsClear (made_tree n)
   clear = record {
     free = λ c fits is. none_or is.0 (sym (not_there c fits) ∙ is.1);
+    flat = λ c fits step. inl refl;
     colls = λ c fits. shallow (coll_text c);
     trees = λ step q is. none_or is.3.0 (ap made_at (sym is.1) ∙ is.3.1);
   }

@@ -48,20 +48,29 @@ dir_stays e f p same is = let there = stands f p (e.node is.0) (same ∙ ap (λ 
 file_stays : (e f : Tree) (p : Path) → look f p ≡ look e p → IsFile e p → IsFile f p
 file_stays e f p same is = let there = stands f p (e.node is.0) (same ∙ ap (λ (x : Option ℕ). held x e.node) is.1) in (there.0, there.1, there.2 ∙ is.2)
 
-number_target : (t : Tree) (n : ℕ) → HasNumber t n → IsFree t number_path
-number_target t n number = free_look t number_path number.file number.stands number.kind
+-- where nothing is seen nothing stands
+nothing : (t : Tree) (p : Path) → look t p ≡ None → t.at p ≡ None
+nothing t p is = by (t.at p) refl
+  where
+    by : (o : Option ℕ) → t.at p ≡ o → t.at p ≡ None
+    by None at = at
+    by (Some n) at = absurd (let e : Some (t.node n) ≡ None = sym (ap (λ (x : Option ℕ). held x t.node) at) ∙ is in cc)
 
-own_stays : (e f : Tree) (n : ℕ) → OwnStays e f → IsOwn e → HasNumber e n → IsOwn f × HasNumber f n
-own_stays e f n stays own number = (
-  record {
-    building = dir_stays e f aside stays.building own.building;
-    places = λ step. stays.places step (own.places step);
-    removed = dir_stays e f trash stays.removed own.removed;
-    target = free_look f number_path number.file (stays.number ∙ number.stands) number.kind;
-    clear = stays.clear own.clear;
-  },
-  record { file = number.file; stands = stays.number ∙ number.stands; kind = number.kind; bytes = number.bytes; small = number.small },
-)
+free_stays : (e f : Tree) (p : Path) → look f p ≡ look e p → IsFree e p → IsFree f p
+free_stays e f p same (inl none) = inl (nothing f p (same ∙ ap (λ (x : Option ℕ). held x e.node) none))
+free_stays e f p same (inr file) = inr (file_stays e f p same file)
+
+own_on : (e f : Tree) → OwnStays e f → IsOwn e → IsOwn f
+own_on e f stays own = record {
+  building = dir_stays e f aside stays.building own.building;
+  places = λ step. stays.places step (own.places step);
+  removed = dir_stays e f trash stays.removed own.removed;
+  target = free_stays e f number_path stays.number own.target;
+  clear = stays.clear own.clear;
+}
+
+number_stays : (e f : Tree) (n : ℕ) → look f number_path ≡ look e number_path → HasNumber e n → HasNumber f n
+number_stays e f n same number = record { file = number.file; stands = same ∙ number.stands; kind = number.kind; bytes = number.bytes; small = number.small }
 
 -- paths of two steps are no paths of three
 two_not_three : (a b : List ℕ) (p : Path) (step : List ℕ) → length p ≡ 2 → a ∷ b ∷ [] ≢ entry p step
@@ -94,10 +103,10 @@ own_dirs c e g f n goes free own also number = (
     building = dir_stays e f aside (goes aside (off_two c (codes "aside"))) own.building;
     places = λ step. free (entry aside step) (also.places step);
     removed = dir_stays e f trash (goes trash (off_two c (codes "trash"))) own.removed;
-    target = free_look f number_path number.file (there ∙ number.stands) number.kind;
+    target = free_stays e f number_path there own.target;
     clear = clear_from e g f (off_files c e f goes) (dirs_from g f free) own.clear also.clear;
   },
-  record { file = number.file; stands = there ∙ number.stands; kind = number.kind; bytes = number.bytes; small = number.small },
+  number_stays e f n there number,
 )
   where
     there : look f number_path ≡ look e number_path
@@ -147,10 +156,10 @@ module _ (v : Version) (e f : Tree) (goes : Replaces building number_path v e f)
     entry_short : (step : List ℕ) → entry (dir_of c) step ≢ number_path
     entry_short step same = two_not_three (codes "current") (codes "commit_op_seq") (dir_of c) step refl (sym same)
 
-    at_same : (step : List ℕ) → f.at (entry (dir_of c) step) ≡ e.at (entry (dir_of c) step)
+    pub at_same : (step : List ℕ) → f.at (entry (dir_of c) step) ≡ e.at (entry (dir_of c) step)
     at_same step = goes.others (entry (dir_of c) step) (entry_off step) (entry_short step)
 
-    nodes_same : (step : List ℕ) (k : ℕ) → e.at (entry (dir_of c) step) ≡ Some k → f.node k ≡ e.node k
+    pub nodes_same : (step : List ℕ) (k : ℕ) → e.at (entry (dir_of c) step) ≡ Some k → f.node k ≡ e.node k
     nodes_same step k here = goes.nodes (entry (dir_of c) step) k (entry_off step) (entry_short step) here
 
     coll_stays : CollStays set c e f
@@ -184,14 +193,20 @@ module _ (v : Version) (e f : Tree) (goes : Replaces building number_path v e f)
     clear_on : KeepsClear e f
     clear_on = clear_by e f (λ c fits is. file_stays f e (dir_of c) (sym (look_off (dir_of c) (two_off (coll_text c)) (dir_off c fits))) is) dirs_on
 
-number_stays : (e f : Tree) (n : ℕ) → look f number_path ≡ look e number_path → HasNumber e n → HasNumber f n
-number_stays e f n same number = record { file = number.file; stands = same ∙ number.stands; kind = number.kind; bytes = number.bytes; small = number.small }
-
 number_comes : (t : Tree) (seq : ℕ) → seq < 2 ^ 63 → look t number_path ≡ Some (number_file seq) → HasNumber t seq
 number_comes t seq small stands = record { file = number_file seq; stands = stands; kind = refl; bytes = refl; small = small }
 
 at_stays : (set : Settings) (h : History) (k hi seq : ℕ) (e f : Tree) → Renumbers seq e f → At set h k hi e → At set h k hi f
 at_stays set h k hi seq e f goes is = record { plain = is.plain; past = past_stays set h.origin (ops_to h hi) k e f (λ c fits. coll_stays (number_file seq) e f goes set c fits) is.past }
+
+own_renumbered : (seq : ℕ) (e f : Tree) → Renumbers seq e f → IsOwn e → IsOwn f
+own_renumbered seq e f goes own = record {
+  building = dir_stays e f aside (look_off (number_file seq) e f goes aside (two_off (number_file seq) e f goes (codes "aside")) (last_off (number_file seq) e f goes (codes "aside") (omega arith))) own.building;
+  places = λ step. places_on (number_file seq) e f goes step (own.places step);
+  removed = dir_stays e f trash (look_off (number_file seq) e f goes trash (two_off (number_file seq) e f goes (codes "trash")) (last_off (number_file seq) e f goes (codes "trash") (omega arith))) own.removed;
+  target = ⊎_elim (λ same. free_stays e f number_path same own.target) (λ this. free_look f number_path (number_file seq) this refl) goes.target;
+  clear = clear_on (number_file seq) e f goes refl own.clear;
+}
 
 image_numbered : (set : Settings) (h : History) (n lo hi seq : ℕ) (e f : Tree) → seq < 2 ^ 63 → Renumbers seq e f → Image set h n lo hi e → Image set h n lo hi f ⊎ Image set h seq lo hi f
 image_numbered set h n lo hi seq e f small goes is = ⊎_elim
@@ -200,25 +215,16 @@ image_numbered set h n lo hi seq e f small goes is = ⊎_elim
     goes.target
   where
     made : (m : ℕ) → HasNumber f m → Image set h m lo hi f
-    made m number = record {
-      base = is.base;
-      number = number;
-      own = record {
-        building = dir_stays e f aside (look_off (number_file seq) e f goes aside (two_off (number_file seq) e f goes (codes "aside")) (last_off (number_file seq) e f goes (codes "aside") (omega arith))) is.own.building;
-        places = λ step. places_on (number_file seq) e f goes step (is.own.places step);
-        removed = dir_stays e f trash (look_off (number_file seq) e f goes trash (two_off (number_file seq) e f goes (codes "trash")) (last_off (number_file seq) e f goes (codes "trash") (omega arith))) is.own.removed;
-        target = number_target f m number;
-        clear = clear_on (number_file seq) e f goes refl is.own.clear;
-      };
-      past = at_stays set h (count_to h lo) hi seq e f goes is.past;
-    }
+    made m number = record { base = is.base; number = number; own = own_renumbered seq e f goes is.own; fit = is.fit; past = at_stays set h (count_to h lo) hi seq e f goes is.past }
 
 pub own_law : OwnLaw
 own_law = record {
-  stays = own_stays;
+  stays = λ e f n stays own number. (own_on e f stays own, number_stays e f n stays.number number);
+  keeps = own_on;
   off = off_stays;
   colls = λ set seq e f goes c fits. coll_stays (number_file seq) e f goes set c fits;
   at = at_stays;
+  renumbered = own_renumbered;
   numbered = image_numbered;
-  then_number = λ set h n lo hi seq t small stands is. record { base = is.base; number = number_comes t seq small stands; own = is.own; past = is.past };
+  then_number = λ set h n lo hi seq t small stands is. record { base = is.base; number = number_comes t seq small stands; own = is.own; fit = is.fit; past = is.past };
 }

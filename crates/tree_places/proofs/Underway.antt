@@ -30,7 +30,7 @@ use Rattle.op_places.specs.Laws.{EditsOne}
 use Rattle.op_places.specs.Places.{is_there}
 use Rattle.op_places.proofs.Colls.{none_or}
 use Rattle.tree_places.specs.Line.{ops_to, count_to, At}
-use Rattle.tree_places.specs.Images.{Image, reads}
+use Rattle.tree_places.specs.Images.{AllCan, Image, reads}
 use Rattle.tree_places.specs.Laws.{ComesNext}
 use Rattle.tree_places.specs.Own.{OwnStays}
 use Rattle.tree_places.specs.Underway.{last_of, IsTurn, Underway, OwnIs}
@@ -61,8 +61,8 @@ module _ (set : Settings) (h : History) (n lo hi : ℕ) (old new : Disk) (images
       own_dirs c one.0 two.0 f n one.2 two.2 is.own (images two.0 two.1).own is.number)
 
   -- so images stay, where their places do
-  pub image_keeps : h.base ≤ lo → Keeps (At set h (count_to h lo) hi) old new → Keeps (OwnIs n) old new → Keeps (Image set h n lo hi) old new
-  image_keeps base places own = both_keep (At set h (count_to h lo) hi) (OwnIs n) (Image set h n lo hi) old new places own (λ t is mine. record { base = base; number = mine.1; own = mine.0; past = is })
+  pub image_keeps : h.base ≤ lo → AllCan h → Keeps (At set h (count_to h lo) hi) old new → Keeps (OwnIs n) old new → Keeps (Image set h n lo hi) old new
+  image_keeps base fit places own = both_keep (At set h (count_to h lo) hi) (OwnIs n) (Image set h n lo hi) old new places own (λ t is mine. record { base = base; number = mine.1; own = mine.0; fit = fit; past = is })
 
 module _ (set : Settings) (how : How) (h : History) (n lo hi seq : ℕ) (ops : List Op) (turn : IsTurn how h lo hi seq ops) where
   abbrev pub Now : ℕ → Disk → Disk → Type 0
@@ -102,6 +102,9 @@ module _ (set : Settings) (how : How) (h : History) (n lo hi seq : ℕ) (ops : L
   module _ (i : ℕ) (op : Op) (here : slice_get ops i ≡ Some op) (entry old : Disk) (sound : Sound old) (is : Now i entry old) where
     base : h.base ≤ lo
     base = (is.images old.tree sound.now).base
+
+    fit : AllCan h
+    fit = (is.images old.tree sound.now).fit
 
     is_known : seq ≤ end_of h
     is_known = ⊎_elim
@@ -158,7 +161,7 @@ module _ (set : Settings) (how : How) (h : History) (n lo hi seq : ℕ) (ops : L
         edit_keeps : Keeps (Image set h n lo hi) old new
         edit_keeps =
             let M = maps set old.tree is.reads.past.whole in
-            image_keeps set h n lo hi old new is.images base
+            image_keeps set h n lo hi old new is.images base fit
             (weaker (From old (ForObject set o (Paired (content (M o.coll) old.tree o.oid) (F (content (M o.coll) old.tree o.oid))))) (At set h (count_to h lo) hi) old new
             (crash M (maps_are set old.tree is.reads.past.whole)) (λ f from.
             edit_law.keeps set h hi (count_to h (seq - 1) + i) op o row F old.tree image_next one (count_to h lo) lower M (maps_are set old.tree is.reads.past.whole)
@@ -174,7 +177,7 @@ module _ (set : Settings) (how : How) (h : History) (n lo hi seq : ℕ) (ops : L
       -- a collection is made
       module _ (c : Coll) (fits : CollFits c) (makes : op ≡ MkColl c) (moves : Moves (Makes set c) old new) (own : Keeps (OwnIs n) old new) where
         make_keeps : Keeps (Image set h n lo hi) old new
-        make_keeps = image_keeps set h n lo hi old new is.images base
+        make_keeps = image_keeps set h n lo hi old new is.images base fit
             (weaker (From old (Makes set c)) (At set h (count_to h lo) hi) old new moves (λ f from.
             coll_law.makes set h hi (count_to h (seq - 1) + i) c fits (place_in hi turn.high ∙ ap Some makes) (count_to h lo) lower from.0 f (is.images from.0 from.1).past from.2))
             own
@@ -189,7 +192,7 @@ module _ (set : Settings) (how : How) (h : History) (n lo hi seq : ℕ) (ops : L
       -- a collection is taken away
       module _ (c : Coll) (takes : op ≡ RmColl c) (moves : Moves (Drops set c) old new) (own : Keeps (OwnIs n) old new) where
         drop_keeps : Keeps (Image set h n lo hi) old new
-        drop_keeps = image_keeps set h n lo hi old new is.images base
+        drop_keeps = image_keeps set h n lo hi old new is.images base fit
             (weaker (From old (Drops set c)) (At set h (count_to h lo) hi) old new moves (λ f from.
             coll_law.drops set h hi (count_to h (seq - 1) + i) c (place_in hi turn.high ∙ ap Some takes) (count_to h lo) lower from.0 f (is.images from.0 from.1).past from.2))
             own

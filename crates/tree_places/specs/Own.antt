@@ -24,11 +24,13 @@ pub record OwnStays (e f : Tree) : Type 0 where
 
 pub record OwnLaw : Type 0 where
   pub stays : (e f : Tree) (n : ℕ) → OwnStays e f → IsOwn e → HasNumber e n → IsOwn f × HasNumber f n
+  pub keeps : (e f : Tree) → OwnStays e f → IsOwn e → IsOwn f
   -- as where one collection's directory and the one for building are changed, and no directory comes
   pub off : (c : Coll) (e f : Tree) → OffStays (dir_of c) e f → KeepsFree e f → OwnStays e f
   -- a number that is written changes no collection, and what was an image is one with its number or with this
   pub colls : (set : Settings) (seq : ℕ) (e f : Tree) → Renumbers seq e f → (c : Coll) → CollFits c → CollStays set c e f
   pub at : (set : Settings) (h : History) (k hi seq : ℕ) (e f : Tree) → Renumbers seq e f → At set h k hi e → At set h k hi f
+  pub renumbered : (seq : ℕ) (e f : Tree) → Renumbers seq e f → IsOwn e → IsOwn f
   pub numbered : (set : Settings) (h : History) (n lo hi seq : ℕ) (e f : Tree) → seq < 2 ^ 63 → Renumbers seq e f → Image set h n lo hi e
       → Image set h n lo hi f ⊎ Image set h seq lo hi f
   pub then_number : (set : Settings) (h : History) (n lo hi seq : ℕ) (t : Tree) → seq < 2 ^ 63 → look t number_path ≡ Some (number_file seq)

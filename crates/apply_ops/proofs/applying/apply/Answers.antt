@@ -1,8 +1,9 @@
 -- The two operations on collections, and what is left to those on objects.
 use Rattle.std.proofs.Common.{rules}
+use Rattle.tree_places.proofs.Own.{own_law}
 use Rattle.apply_ops.proofs.Rows.{edits_of}
 use Rattle.apply_ops.proofs.Going.{guard_there, then_ok}
-use Rattle.apply_ops.proofs.Sites.{current_there, made_elsewhere, dropped_elsewhere, trash_stays, never_file, never_blocked}
+use Rattle.apply_ops.proofs.Sites.{current_there, made_elsewhere, dropped_elsewhere, never_file, never_blocked}
 use Rattle.apply_ops.proofs.Colls.{make_keeps, make_done, drop_keeps, drop_done}
 use Rattle.apply_ops.proofs.applying.apply.Goals as goal
 
@@ -33,8 +34,7 @@ returns-in-MkColl-clause-ready g c = λ tells.
     let was = c.requires.ready (c.make_coll.ensures.told tells) in
     then_ok c.make_coll.result (λ keeps. record {
       ready = keeps c.args.set.now was.ready;
-      removed = trash_stays (g.T.FileTree.disk c.args.tree.now).tree (g.T.FileTree.disk c.make_coll.new.tree).tree (made_elsewhere c.in-MkColl.c c.fits.ensures _ _ (c.make_coll.ensures.clear tells).now (c.make_coll.ensures.off tells).now) was.removed;
-      clear = (c.make_coll.ensures.clear tells).now was.clear;
+      own = own_law.keeps (g.T.FileTree.disk c.args.tree.now).tree (g.T.FileTree.disk c.make_coll.new.tree).tree (made_elsewhere c.in-MkColl.c c.fits.ensures _ _ (c.make_coll.ensures.clear tells).now (c.make_coll.ensures.off tells).now) was.own;
     })
     (c.make_coll.ensures.ready tells)
 
@@ -64,16 +64,15 @@ returns-in_ok-_grew-in-RmColl-clause-ready g c = λ tells.
     let was = c.requires.ready (c.drop_coll.ensures.told tells) in
     record {
       ready = c.in_ok-_grew-in-RmColl.ensures.ready tells c.args.set.now was.ready;
-      removed = trash_stays (g.T.FileTree.disk c.args.tree.now).tree (g.T.FileTree.disk c.drop_coll.new.tree).tree (dropped_elsewhere c.in-RmColl.c c.fits-in-RmColl.ensures c.args.pos _ _ (c.drop_coll.ensures.clear tells).now (c.drop_coll.ensures.off tells).now) was.removed;
-      clear = (c.drop_coll.ensures.clear tells).now was.clear;
+      own = own_law.keeps (g.T.FileTree.disk c.args.tree.now).tree (g.T.FileTree.disk c.drop_coll.new.tree).tree (dropped_elsewhere c.in-RmColl.c c.fits-in-RmColl.ensures c.args.pos _ _ (c.drop_coll.ensures.clear tells).now (c.drop_coll.ensures.off tells).now) was.own;
     }
 
 pub returns-in-MkColl-clause-undamaged : goal.returns-in-MkColl-clause-undamaged
 returns-in-MkColl-clause-undamaged g c = λ tells p e.
     let was = c.requires.ready (c.make_coll.ensures.told tells) in
-    never_file (g.T.FileTree.disk c.args.tree.now).tree was.clear c.in-MkColl.c c.fits.ensures p (c.make_coll.ensures.damaged tells p e)
+    never_file (g.T.FileTree.disk c.args.tree.now).tree was.own.clear c.in-MkColl.c c.fits.ensures p (c.make_coll.ensures.damaged tells p e)
 
 pub returns-in_err-_grew-in-RmColl-clause-undamaged : goal.returns-in_err-_grew-in-RmColl-clause-undamaged
 returns-in_err-_grew-in-RmColl-clause-undamaged g c = λ tells p e.
     let was = c.requires.ready (c.drop_coll.ensures.told tells) in
-    never_blocked (g.T.FileTree.disk c.args.tree.now).tree was.clear c.in-RmColl.c c.fits-in-RmColl.ensures c.args.pos p (c.drop_coll.ensures.damaged tells p (search (rules, e)))
+    never_blocked (g.T.FileTree.disk c.args.tree.now).tree was.own.clear c.in-RmColl.c c.fits-in-RmColl.ensures c.args.pos p (c.drop_coll.ensures.damaged tells p (search (rules, e)))

@@ -82,5 +82,5 @@ returns-in_err-is_there-clause-undamaged g c = λ tells p e.
     let t = (g.T.FileTree.disk c.args.tree.now).tree in
     let was = c.requires.ready (c.is_there.ensures.told tells) in
     let way = c.is_there.ensures.damaged tells p (search (rules, e)) in
-    never_file t was.clear n.coll (c.name_fits.ensures n is).coll p
+    never_file t was.own.clear n.coll (c.name_fits.ensures n is).coll p
     (subst (λ (d : Coll). (p ≡ dir_of d) × IsFile t p) (named_coll c.args.op.now n is c.colls-coll.result c.colls-coll.ensures) way)
