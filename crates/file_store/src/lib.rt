@@ -4,6 +4,7 @@
 #![tactic(auto)]
 
 mod fault;
+mod reading;
 mod store;
 mod working;
 

@@ -15,6 +15,7 @@ use crate::working::drain_parts;
 use dev_api::Device;
 use file_side::Parts;
 use fs_model::Txn;
+use fs_names::Settings;
 use ring_journal::Ring;
 use std::alloc::Global;
 use std::marker::Model;
@@ -88,6 +89,13 @@ impl FileStore {
         ensures { result ≡ self.now.first }
     {
         self.first
+    }
+
+    // Where memory comes from, and how names are placed.
+    pub(crate) fn place(&self) -> (Global, Settings)
+        ensures { result.1 ≡ self.now.set }
+    {
+        (self.alloc, self.parts.set)
     }
 
     /// Queues a transaction, if it is accepted after all that is queued and there is room, and gives its number. Neither tree
