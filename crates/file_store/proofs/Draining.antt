@@ -14,7 +14,7 @@ use Rattle.store_history.specs.History.{History, end_of, at}
 use Rattle.store_history.specs.Pair.{PairsStand}
 use Rattle.store_turns.specs.declared.numbers.Numbers.{Numbers}
 use Rattle.store_turns.specs.declared.numbers.Queued.{Queued}
-use Rattle.store_turns.specs.State.{Holding}
+use Rattle.store_turns.specs.State.{Fits, Holding}
 use Rattle.store_turns.specs.Waiting.{AllMeet, AreDue}
 use Rattle.tree_places.specs.Images.{Image, reads}
 use Rattle.tree_places.proofs.Operations.{history_law}
@@ -104,3 +104,15 @@ drained set numbers new ring to queue left ws counted same number committed queu
     pair : (n : Numbers) (m : ℕ) → n.journalled ≡ m → n.committed ≡ m → n ≡ record { journalled = m; committed = m }
     pair n m one two = ap (λ (k : ℕ). let x : Numbers = record { journalled = k; committed = n.committed } in x) one
         ∙ ap (λ (k : ℕ). let x : Numbers = record { journalled = m; committed = k } in x) two
+
+pub counted_after : (set : Settings) (numbers new : Numbers) (ring to : State) (queue left : Waiting) → IsCounted (working set numbers ring queue)
+    → IsDrained (working set numbers ring queue) (working set new to left) → Fits new to → IsCounted (working set new to left)
+counted_after set numbers new ring to queue left counted is fits = record {
+  fits = fits;
+  last =
+      let last : left.last ≡ queue.last = ap (λ (w : Waiting). w.last) is.queue in
+      let none : length left.txns ≡ 0 = ap (λ (w : Waiting). length w.txns) is.queue in
+      let journalled : new.journalled ≡ queue.last = ap (λ (n : Numbers). n.journalled) is.numbers in
+      omega (arith, last, none, journalled);
+  size = ap (λ (w : Waiting). w.size) is.queue ∙ counted.size ∙ ap (λ (n : ℕ). n - 8192) (sym is.size);
+}

@@ -1,3 +1,4 @@
 mod Draining
+mod Queueing
 pub mod Shown
 pub mod Stilled

@@ -147,7 +147,8 @@ pub fn make_store<T: FileTree, D: Device>(
         Err(fault) => return Err(fault),
     }
     match make_files(alloc, tree, fsid, set) {
-        Ok(()) => Ok(()),
-        Err(fault) => Err(fault),
+        Ok(()) => {}
+        Err(fault) => return Err(fault),
     }
+    Ok(())
 }

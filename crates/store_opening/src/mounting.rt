@@ -83,8 +83,9 @@ pub fn mount<T: FileTree, D: Device>(
         Ok(identity) => identity,
         Err(fault) => return Err(fault),
     };
-    match open(alloc, tree, dev, &identity.fsid, &identity.settings) {
-        Ok(store) => Ok(store),
-        Err(fault) => Err(fault),
-    }
+    let store = match open(alloc, tree, dev, &identity.fsid, &identity.settings) {
+        Ok(store) => store,
+        Err(fault) => return Err(fault),
+    };
+    Ok(store)
 }
