@@ -1,3 +1,4 @@
+mod Answering
 mod Draining
 mod Queueing
 pub mod Shown

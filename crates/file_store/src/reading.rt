@@ -44,10 +44,11 @@ impl FileStore {
             return Err(ReadFault::Broken(first));
         }
         let (alloc, set) = self.place();
-        match file_readings::read(alloc, tree, &set, c, o, at, len) {
-            Ok(found) => Ok(found),
-            Err(fault) => Err(ReadFault::from(fault)),
-        }
+        let found = match file_readings::read(alloc, tree, &set, c, o, at, len) {
+            Ok(found) => found,
+            Err(fault) => return Err(ReadFault::from(fault)),
+        };
+        Ok(found)
     }
 
     /// The length of an object. None where the object or its collection is missing.
@@ -72,10 +73,11 @@ impl FileStore {
             return Err(ReadFault::Broken(first));
         }
         let (alloc, set) = self.place();
-        match file_readings::stat(alloc, tree, &set, c, o) {
-            Ok(found) => Ok(found),
-            Err(fault) => Err(ReadFault::from(fault)),
-        }
+        let found = match file_readings::stat(alloc, tree, &set, c, o) {
+            Ok(found) => found,
+            Err(fault) => return Err(ReadFault::from(fault)),
+        };
+        Ok(found)
     }
 
     /// The attributes of an object, by name. None where the object or its collection is missing.
@@ -100,10 +102,11 @@ impl FileStore {
             return Err(ReadFault::Broken(first));
         }
         let (alloc, set) = self.place();
-        match file_readings::attrs(alloc, tree, &set, c, o) {
-            Ok(found) => Ok(found),
-            Err(fault) => Err(ReadFault::from(fault)),
-        }
+        let found = match file_readings::attrs(alloc, tree, &set, c, o) {
+            Ok(found) => found,
+            Err(fault) => return Err(ReadFault::from(fault)),
+        };
+        Ok(found)
     }
 
     /// The omap of an object: its header, and its pairs by key. None where the object or its collection is missing.
@@ -128,10 +131,11 @@ impl FileStore {
             return Err(ReadFault::Broken(first));
         }
         let (alloc, set) = self.place();
-        match file_readings::omap(alloc, tree, &set, c, o) {
-            Ok(found) => Ok(found),
-            Err(fault) => Err(ReadFault::from(fault)),
-        }
+        let found = match file_readings::omap(alloc, tree, &set, c, o) {
+            Ok(found) => found,
+            Err(fault) => return Err(ReadFault::from(fault)),
+        };
+        Ok(found)
     }
 
     /// A page of a collection's listing in hash order, from the first object at or after one on, or from the first of all.
@@ -158,10 +162,11 @@ impl FileStore {
             return Err(ReadFault::Broken(first));
         }
         let (alloc, set) = self.place();
-        match file_readings::list(alloc, tree, &set, c, from, max) {
-            Ok(found) => Ok(found),
-            Err(fault) => Err(ReadFault::from(fault)),
-        }
+        let found = match file_readings::list(alloc, tree, &set, c, from, max) {
+            Ok(found) => found,
+            Err(fault) => return Err(ReadFault::from(fault)),
+        };
+        Ok(found)
     }
 
     /// The collections, in the order of their texts.
@@ -181,9 +186,10 @@ impl FileStore {
             return Err(ReadFault::Broken(first));
         }
         let (alloc, set) = self.place();
-        match file_readings::colls(alloc, tree, &set) {
-            Ok(found) => Ok(found),
-            Err(fault) => Err(ReadFault::from(fault)),
-        }
+        let found = match file_readings::colls(alloc, tree, &set) {
+            Ok(found) => found,
+            Err(fault) => return Err(ReadFault::from(fault)),
+        };
+        Ok(found)
     }
 }

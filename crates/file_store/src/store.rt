@@ -109,10 +109,11 @@ impl FileStore {
         if let Some(first) = self.first {
             return Err(QueueFault::Broken(first));
         }
-        match self.queue.queue(txn) {
-            Ok(seq) => Ok(seq),
-            Err(fault) => Err(QueueFault::from(fault)),
-        }
+        let seq = match self.queue.queue(txn) {
+            Ok(seq) => seq,
+            Err(fault) => return Err(QueueFault::from(fault)),
+        };
+        Ok(seq)
     }
 
     /// Journals, syncs and applies each transaction that waits, one after the other, and then commits. It commits in between
@@ -151,12 +152,10 @@ impl FileStore {
             tree,
             dev,
         );
-        match done {
-            Ok(()) => Ok(self.numbers.journalled),
-            Err(fault) => {
-                self.first = Some(fault.first());
-                Err(fault)
-            }
+        if let Err(fault) = done {
+            self.first = Some(fault.first());
+            return Err(fault);
         }
+        Ok(self.numbers.journalled)
     }
 }

@@ -1,3 +1,4 @@
 mod Off
 mod Made
 mod Orders
+mod Telling
