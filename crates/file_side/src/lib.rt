@@ -13,3 +13,6 @@ pub use parts::Parts;
 pub fn fit_law()
     ensures { FitLaw }
 {}
+
+#[cfg(test)]
+mod tests;

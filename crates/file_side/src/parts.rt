@@ -19,22 +19,24 @@ use tree_api::{Failed, FileTree};
 /// What a store has beside its tree and its journal.
 #[derive(Clone, Copy, Debug, PartialEq, Eq)]
 pub struct Parts {
+    /// Which store it is.
+    pub fsid: [u8; 16],
     /// The settings, which never change.
     pub set: Settings,
 }
 
 impl<T: FileTree> Side<T> for Parts {
-    ghost set = { λ parts. parts.set };
+    ghost set = { λ parts. record { fsid = parts.fsid; settings = parts.set } };
 
-    ghost image = { Image };
+    ghost image = { λ id. Image id.settings };
 
-    ghost reads = { tree_reads };
+    ghost reads = { λ id. tree_reads id.settings };
 
     ghost number = { HasNumber };
 
-    ghost laid = { IsLaid };
+    ghost laid = { λ id. IsLaid id.settings };
 
-    ghost ready = { IsReady };
+    ghost ready = { λ id. IsReady id.settings };
 
     ghost fits = { CanDo };
 
@@ -73,7 +75,7 @@ impl<T: FileTree> Side<T> for Parts {
         store_walk::tidy(alloc, tree)
     }
 
-    ghost ready_is = { λ s t tells laid only. record { ready = ready_alone s (T.disk t) (T.sound t tells) only laid; own = laid.own } };
+    ghost ready_is = { λ id t tells laid only. record { ready = ready_alone id.settings (T.disk t) (T.sound t tells) only laid; own = laid.own } };
 
-    ghost theory = { theory_law };
+    ghost theory = { λ id. theory_law id.settings };
 }

@@ -1,7 +1,7 @@
 // The tree's side of a store.
 ghost use Rattle.std.specs.Prelude.{◌≡◌, ◌≢◌, ◌⊎◌, ◌↔◌, ℕ, ◌-◌, ◌<◌, ◌≤◌, ◌^◌, List, Err, IfOk, OnOk, IfSome, IfNone, IsTrue, IsOk, IsErr, IsErrOf};
 ghost use Rattle.fault_count.specs.Counted.{Counted};
-ghost use Rattle.fs_names.specs.declared.settings.Settings.{Settings};
+ghost use Rattle.store_files.specs.declared.reading.Identity.{Identity};
 ghost use Rattle.fs_model.specs.declared.op.Op.{Op};
 ghost use Rattle.tree_api.specs.Tree.{Path, Tree};
 ghost use Rattle.tree_api.specs.Disk.{Disk, Still, Keeps, Everywhere, SyncedAll};
@@ -19,23 +19,23 @@ use tree_api::{Failed, FileTree};
 
 /// How a store does transactions on a tree.
 pub trait Side<T: FileTree> {
-    /// The store's settings, which no call changes.
-    ghost set: { Self → Settings };
+    /// Which store it is and its settings, which no call changes.
+    ghost set: { Self → Identity };
 
     /// The committed number, how far each part of the tree has gone, and how far none has gone beyond.
-    ghost image: { Settings → Images Tree };
+    ghost image: { Identity → Images Tree };
 
     /// The tree reads as the transactions up to a number leave it.
-    ghost reads: { Settings → Reads };
+    ghost reads: { Identity → Reads };
 
     /// The committed number that stands there.
     ghost number: { Tree → ℕ → Type 0 };
 
     /// Transactions may be done on such a tree, once a crash leaves nothing else.
-    ghost laid: { Settings → Tree → Type 0 };
+    ghost laid: { Identity → Tree → Type 0 };
 
     /// They may be done now: what reads is laid out so, and what a crash leaves agrees with it where that matters.
-    ghost ready: { Settings → Disk → Type 0 };
+    ghost ready: { Identity → Disk → Type 0 };
 
     /// These operations can be done.
     ghost fits: { List Op → Type 0 };
@@ -124,8 +124,8 @@ pub trait Side<T: FileTree> {
         ensures undamaged { T.tells tree.new → (p : Path) → result ≢ Err (IndexFault.Damaged p) }
         ensures cause { IsErrOf result IndexFault.Tree → Counted (T.disk tree.old).faults (T.disk tree.new).faults };
 
-    ghost ready_is: { (s : Settings) (t : T) → T.tells t → laid s (T.disk t).tree
+    ghost ready_is: { (s : Identity) (t : T) → T.tells t → laid s (T.disk t).tree
         → Everywhere (T.disk t) (λ c. c ≡ (T.disk t).tree) → ready s (T.disk t) };
 
-    ghost theory: { (s : Settings) → Theory (image s) (reads s) number (laid s) };
+    ghost theory: { (s : Identity) → Theory (image s) (reads s) number (laid s) };
 }

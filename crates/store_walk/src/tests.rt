@@ -128,12 +128,18 @@ fn damage(alloc: Global, at: Place, step: &[u8]) -> Result<(bool, bool), IndexFa
 fn what_is_in_the_way_is_damage(rt: HostRuntime) -> Result<(), IndexFault> {
     let alloc = rt.alloc();
     assert_eq!(rt; damage(alloc, Place::Aside, b"seq")?, (true, false));
-    assert_eq!(rt; damage(alloc, Place::Current, b"commit_op_seq")?, (true, false));
+    assert_eq!(rt;
+        damage(alloc, Place::Current, b"commit_op_seq")?,
+        (true, false)
+    );
     assert_eq!(rt; damage(alloc, Place::Current, b"1.c_head")?, (false, true));
     assert_eq!(rt; damage(alloc, Place::Current, b"omap")?, (false, false));
     assert_eq!(rt; damage(alloc, Place::Current, b"other")?, (false, false));
     assert_eq!(rt; damage(alloc, Place::Coll, b"DIR_3")?, (true, true));
-    assert_eq!(rt; damage(alloc, Place::Coll, b"a__head_0000000B__1")?, (true, false));
+    assert_eq!(rt;
+        damage(alloc, Place::Coll, b"a__head_0000000B__1")?,
+        (true, false)
+    );
     assert_eq!(rt; damage(alloc, Place::Trash, b"x")?, (false, false));
     Ok(())
 }

@@ -44,10 +44,7 @@ pub(crate) fn count_trash<T: FileTree>(alloc: Global, tree: &mut T) -> Result<us
     count(tree, &dir)
 }
 
-pub(crate) fn count_current<T: FileTree>(
-    alloc: Global,
-    tree: &mut T,
-) -> Result<usize, IndexFault> {
+pub(crate) fn count_current<T: FileTree>(alloc: Global, tree: &mut T) -> Result<usize, IndexFault> {
     let dir = current_dir(alloc)?;
     count(tree, &dir)
 }

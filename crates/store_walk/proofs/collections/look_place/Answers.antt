@@ -1,5 +1,4 @@
-use Rattle.std.proofs.Common.{◌≡◌, ⊎_elim, length, sym, subst, arith}
-use Rattle.std.proofs.lemmas.Bool.{both_ways}
+use Rattle.std.proofs.Common.{◌≡◌, length, sym, subst, arith}
 use Rattle.tree_api.specs.Tree.{Path}
 use Rattle.lfn_index.proofs.Listings.{single_step}
 use Rattle.coll_ops.proofs.Clearing.{entry_path}
