@@ -92,9 +92,13 @@ module _ (set : Settings) (fsid : List ℕ) (before t : Tree) (bare : IsBare bef
   missing : (c : Coll) → CollFits c → t.at (dir_of c) ≡ None
   missing c fits = free (dir_of c) (off_name (coll_text c) (other c fits)) (not_root (codes "current") (coll_text c ∷ []))
 
+  none_within : (c : Coll) → CollFits c → (step : List ℕ) → t.at (entry (dir_of c) step) ≡ None
+  none_within c fits step = free (entry (dir_of c) step) (off_step (coll_text c) step (other c fits).maps) (not_root (codes "current") (coll_text c ∷ step ∷ []))
+
   clear : IsClear t
   clear = record {
     free = λ c fits is. none_or is.0 (sym (missing c fits) ∙ is.1);
+    flat = λ c fits step. inl (none_within c fits step);
     colls = λ c fits. shallow (dir_of c) 2 refl;
     trees = λ step. shallow (entry trash step) 3 refl;
   }
@@ -109,13 +113,12 @@ module _ (set : Settings) (fsid : List ℕ) (before t : Tree) (bare : IsBare bef
   }
 
   within : (c : Coll) → CollFits c → (step : List ℕ) (n : ℕ) → t.at (entry (dir_of c) step) ≡ Some n → ⊥
-  within c fits step n here =
-      none_or n (sym (free (entry (dir_of c) step) (off_step (coll_text c) step (other c fits).maps) (not_root (codes "current") (coll_text c ∷ step ∷ []))) ∙ here)
+  within c fits step n here = none_or n (sym (none_within c fits step) ∙ here)
 
   no_files : (c : Coll) → CollFits c → IsMap set t (dir_of c) (λ o. None)
   no_files c fits = record {
     files = λ o step n is. absurd (within c fits step n is.1.here);
-    there = λ o n own is. absurd (none_or n is);
+    there = λ o n fit is. absurd (none_or n is);
     known = λ step n here. absurd (within c fits step n here);
   }
 
@@ -124,13 +127,13 @@ module _ (set : Settings) (fsid : List ℕ) (before t : Tree) (bare : IsBare bef
     none = ap (λ (m : Option ℕ). option_map guard_of (held m t.node)) (missing c fits);
     empty = record {
       whole = (λ o. None, no_files c fits);
-      none = λ m is o own. no_file m is o own (m o) refl;
+      none = λ m is o fit. no_file m is o fit (m o) refl;
     };
   }
     where
       no_file : (m : Map) → IsMap set t (dir_of c) m → (o : Oid) → OidFits o → (x : Option ℕ) → m o ≡ x → m o ≡ None
-      no_file m is o own None at = at
-      no_file m is o own (Some n) at = let found = is.there o n own at in absurd (within c fits found.0 n found.1.here)
+      no_file m is o fit None at = at
+      no_file m is o fit (Some n) at = let found = is.there o n fit at in absurd (within c fits found.0 n found.1.here)
 
   image : Image set (replay_of 0 fin.empty []) 0 0 0 t
   image = history_law.begins set 0 t number own gone

@@ -7,7 +7,7 @@ use Rattle.store_making.specs.declared.fault.MakeFault.{MakeFault}
 use Rattle.store_making.specs.declared.fault.MakeFault.TheVariants.{NotEmpty, DeviceSize, Tree as TreeFailed, Device, Memory}
 use Rattle.store_making.specs.Making.{IsRefusal, TellsNew, TellsSize}
 
-module _ {T : Type 0} where
+module _ (T : Type 0) where
   pub tells_size : (size : ℕ) → IsSize size → (fault : MakeFault) → ((n : ℕ) → ◌≡◌ {A = Result T MakeFault} (Err fault) (Err (DeviceSize n)) → ⊥) → TellsSize {T = T} size (Err fault)
   tells_size size is NotEmpty not = is
   tells_size size is (DeviceSize n) not = absurd (not n refl)
