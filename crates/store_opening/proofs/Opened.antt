@@ -55,7 +55,7 @@ module _ (set : Settings) (fsid : List ℕ) (o : Objects) (n last : ℕ) (m : Mo
         };
       })
 
-module _ {image : Images Tree} (fsid : List ℕ) where
+module _ (image : Images Tree) (fsid : List ℕ) where
   -- a reading before or behind
   pub carry_then : (may : Tree → Type 0) (d : Disk) (mid new : Files) (e : Disk) → Stays mid new → PairsCarry image fsid may d mid.may e → PairsCarry image fsid may d new.may e
   carry_then may d mid new e stays carry = λ t is. carry t (stays.image t is)

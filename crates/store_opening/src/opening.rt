@@ -25,7 +25,7 @@ ghost use Rattle.store_opening.specs.Mounts.{ExplainsOf, IsFoundFirst, IsFresh, 
 
 use crate::fault::MountFault;
 use dev_api::Device;
-use file_side::Parts;
+use file_side::{Parts, fit_law};
 use file_store::FileStore;
 use fs_model::{CollList, Op, PlainObjects, colls_law};
 use fs_names::{Coll, Settings};
@@ -108,8 +108,12 @@ pub(crate) fn open<T: FileTree, D: Device>(
     ensures tree_faults { (T.disk tree.old).faults ≤ (T.disk tree.new).faults }
     ensures device_faults { (D.state dev.old).faults ≤ (D.state dev.new).faults }
 {
+    fit_law();
     shows_law();
-    let parts = Parts { set: *set };
+    let parts = Parts {
+        fsid: *fsid,
+        set: *set,
+    };
     let mounted = match store_mount::mount(alloc, &parts, tree, dev, fsid) {
         Ok(mounted) => mounted,
         Err(fault) => return Err(MountFault::from(fault)),
