@@ -69,6 +69,7 @@ fn go_on<T: FileTree, S: Side<T>, D: Device>(
     ensures counts { OnOk result ((last : ℕ) → last + 1 ≡ ring.new.head.seq + ring.new.count → Fits (record { journalled = last; committed = committed }) ring.new) }
     ensures holds { D.tells dev.new → OnOk result (Holds ring.new (D.state dev.new).disk) }
     ensures size { OnOk result (ring.new.head.size ≡ ring.old.head.size) }
+    ensures fsid { OnOk result (ring.new.head.fsid ≡ ring.old.head.fsid) }
     ensures ready { T.tells tree.new → OnOk result (S.ready (S.set side.now) (T.disk tree.new)) }
     ensures refused { D.tells dev.new → IfErr result (RefusesReplay S.fits committed ring.old.head.seq (synced (D.state dev.old).disk)) }
     ensures late { T.tells tree.new → IfErr result (λ fault. IsFoundFirst fault → ⊥) }
@@ -123,6 +124,7 @@ pub fn mount<T: FileTree, S: Side<T>, D: Device>(
     ensures ready { T.tells tree.new → OnOk result (S.ready (S.set side.now) (T.disk tree.new)) }
     ensures holds { D.tells dev.new → IfOk result (λ mounted. Holds mounted.ring (D.state dev.new).disk) }
     ensures size { IfOk result (λ mounted. mounted.ring.head.size ≡ (D.state dev.new).size) }
+    ensures fsid { IfOk result (λ mounted. mounted.ring.head.fsid ≡ fsid.now) }
     ensures can { T.tells tree.new → D.tells dev.new
         → IfOk result (λ mounted. CanMount S.fits S.number (S.laid (S.set side.now)) fsid.now
         (T.disk tree.old).tree (D.state dev.old).disk.reads mounted.numbers.committed) }

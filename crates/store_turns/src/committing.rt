@@ -66,6 +66,7 @@ pub fn commit<T: FileTree, S: Side<T>, D: Device>(
     ensures counts { OnOk result (Fits core.new ring.new) }
     ensures emptied { OnOk result (ring.new.used ≡ 0) }
     ensures size { OnOk result (ring.new.head.size ≡ ring.old.head.size) }
+    ensures fsid { OnOk result (ring.new.head.fsid ≡ ring.old.head.fsid) }
     ensures core { OnOk result (core.new ≡ record core.old { committed = core.old.journalled }) }
     ensures same { core.new.journalled ≡ core.old.journalled }
     ensures ready { T.tells tree.new → OnOk result (S.ready (S.set side.now) (T.disk tree.new)) }

@@ -39,6 +39,8 @@ pub fn drain<T: FileTree, S: Side<T>, D: Device>(
     ensures counts { OnOk result (Fits core.new ring.new) }
     ensures number { OnOk result (core.new.journalled ≡ core.old.journalled + length waiting.now) }
     ensures grows { core.old.journalled ≤ core.new.journalled }
+    ensures size { OnOk result (ring.new.head.size ≡ ring.old.head.size) }
+    ensures fsid { OnOk result (ring.new.head.fsid ≡ ring.old.head.fsid) }
     ensures committed { OnOk result (core.new.committed ≡ core.new.journalled) }
     ensures ready { T.tells tree.new → OnOk result (S.ready (S.set side.now) (T.disk tree.new)) }
     ensures holds { D.tells dev.new → OnOk result (Holds ring.new (D.state dev.new).disk) }
@@ -53,8 +55,11 @@ pub fn drain<T: FileTree, S: Side<T>, D: Device>(
     ensures undamaged { T.tells tree.new → (p : Path) → result ≢ Err (StoreFault.Damaged p) }
     ensures told { T.tells tree.new → T.tells tree.old }
     ensures honest { D.tells dev.new → D.tells dev.old }
+    ensures extent { (D.state dev.new).size ≡ (D.state dev.old).size }
     ensures tree { IsErrOf result StoreFault.Tree → Counted (T.disk tree.old).faults (T.disk tree.new).faults }
     ensures device { IsErrOf result StoreFault.Device → Counted (D.state dev.old).faults (D.state dev.new).faults }
+    ensures tree_faults { (T.disk tree.old).faults ≤ (T.disk tree.new).faults }
+    ensures device_faults { (D.state dev.old).faults ≤ (D.state dev.new).faults }
 {
     journal_law();
     for one in waiting {

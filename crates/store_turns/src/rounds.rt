@@ -39,6 +39,7 @@ pub fn make_room<T: FileTree, S: Side<T>, D: Device>(
     ensures counts { OnOk result (Fits core.new ring.new) }
     ensures room { OnOk result (room ≤ free_of ring.new) }
     ensures size { OnOk result (ring.new.head.size ≡ ring.old.head.size) }
+    ensures fsid { OnOk result (ring.new.head.fsid ≡ ring.old.head.fsid) }
     ensures same { core.new.journalled ≡ core.old.journalled }
     ensures ready { T.tells tree.new → OnOk result (S.ready (S.set side.now) (T.disk tree.new)) }
     ensures holds { D.tells dev.new → OnOk result (Holds ring.new (D.state dev.new).disk) }
@@ -85,6 +86,7 @@ pub fn round<T: FileTree, S: Side<T>, D: Device>(
     requires fits { need_of (length payload.now) ≤ ring.old.head.size - 8192 }
     ensures counts { OnOk result (Fits core.new ring.new) }
     ensures size { OnOk result (ring.new.head.size ≡ ring.old.head.size) }
+    ensures fsid { OnOk result (ring.new.head.fsid ≡ ring.old.head.fsid) }
     ensures number { OnOk result (core.new.journalled ≡ core.old.journalled + 1) }
     ensures grows { core.old.journalled ≤ core.new.journalled }
     ensures ready { T.tells tree.new → OnOk result (S.ready (S.set side.now) (T.disk tree.new)) }

@@ -20,6 +20,7 @@ loop-one-preserved g c =
       number = omega (arith, e.number, inv.number);
       extent = e.extent ∙ inv.extent ∙ sym e.size;
       size = e.size ∙ inv.size;
+      fsid = e.fsid ∙ inv.fsid;
       told = λ t. inv.told (e.told t);
       honest = λ t. inv.honest (e.honest t);
       ready = e.ready;

@@ -11,6 +11,7 @@ invariant-loop-one g l = record {
   number : l.core.journalled ≡ l.fn.core.journalled + l.one-index;
   extent : (g.D.Device.state l.dev).size ≡ l.ring.head.size;
   size : l.ring.head.size ≡ l.fn.ring.head.size;
+  fsid : l.ring.head.fsid ≡ l.fn.ring.head.fsid;
   told : g.T.FileTree.tells l.tree → g.T.FileTree.tells l.fn.tree;
   honest : g.D.Device.tells l.dev → g.D.Device.tells l.fn.dev;
   ready : g.T.FileTree.tells l.tree → g.S.Side.ready (g.S.Side.set l.side) (g.T.FileTree.disk l.tree);

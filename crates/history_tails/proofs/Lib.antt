@@ -1,0 +1,4 @@
+pub mod Tails
+pub mod Waits
+pub mod Due
+pub mod Longer
