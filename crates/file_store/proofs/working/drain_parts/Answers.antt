@@ -1,7 +1,7 @@
-use Rattle.std.proofs.Common.{◌≡◌, ℕ, ◌+◌, ◌-◌, ◌<◌, ◌^◌, length, sym, ◌∙◌, ap, subst, arith, rules}
+use Rattle.std.proofs.Common.{ℕ, ◌+◌, ◌<◌, ◌^◌, length, sym, subst, arith, rules}
 use Rattle.store_turns.specs.Waiting.{AllFit}
 use Rattle.file_store.specs.Store.{Store, working}
-use Rattle.file_store.proofs.Draining.{count_is, last_is, due, on_long, leaves, holds_after, drained, counted_after}
+use Rattle.file_store.proofs.Draining.{last_is, due, on_long, leaves, holds_after, drained, counted_after}
 use Rattle.file_store.proofs.working.drain_parts.Goals as goal
 
 pub drain-requires-clause-small : goal.drain-requires-clause-small

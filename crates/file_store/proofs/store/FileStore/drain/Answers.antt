@@ -1,4 +1,3 @@
-use Rattle.std.proofs.Common.{rules}
 use Rattle.file_store.proofs.Draining.{not_some, store_holds, store_leaves}
 use Rattle.file_store.proofs.store.FileStore.drain.Goals as goal
 

@@ -1,4 +1,4 @@
-use Rattle.std.proofs.Common.{◌≡◌, sym, ap, subst, rules}
+use Rattle.std.proofs.Common.{◌≡◌, sym, ◌∙◌, ap, subst, rules}
 use Rattle.fs_names.specs.declared.settings.Settings.{Settings}
 use Rattle.fs_model.specs.Objects.{Objects}
 use Rattle.store_history.specs.History.{at, end_of}
@@ -27,4 +27,4 @@ pub returns-in-Err-clause-undamaged : goal.returns-in-Err-clause-undamaged
 returns-in-Err-clause-undamaged g c = λ tells works p is.
     let t = g.T.FileTree.disk c.args.tree.now in
     let ready = subst (λ (s : Settings). IsReady s t) (sym c.place.ensures) (c.requires.tree (search rules) works) in
-    c.omap.ensures.undamaged (search rules) (whole_now c.place.result.1 t (g.met.T.FileTree.sound c.args.tree.now (search rules)) ready) ready.own.clear p (damaged_via c.from.result c.in-Err.fault p c.from.ensures is)
+    c.omap.ensures.undamaged (search rules) (whole_now c.place.result.1 t (g.met.T.FileTree.sound c.args.tree.now (search rules)) ready) ready.own.clear p (c.in-Err.is ∙ damaged_via c.from.result c.in-Err.fault p c.from.ensures is)

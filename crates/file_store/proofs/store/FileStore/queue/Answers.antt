@@ -1,4 +1,4 @@
-use Rattle.std.proofs.Common.{◌≡◌, sym, ap}
+use Rattle.std.proofs.Common.{sym, ap}
 use Rattle.file_store.specs.Store.{Store}
 use Rattle.file_store.proofs.Queueing.{waits_queued}
 use Rattle.file_store.proofs.store.FileStore.queue.Goals as goal
