@@ -50,13 +50,7 @@ impl Model for FileStore {
 
 impl FileStore {
     /// A store on a tree and a ring that were just mounted.
-    pub fn new(
-        alloc: Global,
-        parts: Parts,
-        numbers: Numbers,
-        ring: Ring,
-        queue: Queue,
-    ) -> FileStore
+    pub fn new(alloc: Global, parts: Parts, numbers: Numbers, ring: Ring, queue: Queue) -> FileStore
         requires counted { IsCounted (working parts.set numbers ring queue) }
         ensures { result ≡ working parts.set numbers ring queue }
     {
@@ -118,7 +112,11 @@ impl FileStore {
 
     /// Journals, syncs and applies each transaction that waits, one after the other, and then commits. It commits in between
     /// where the journal has no room. Gives the last number, which is acknowledged then.
-    pub fn drain<T: FileTree, D: Device>(&mut self, tree: &mut T, dev: &mut D) -> Result<u64, TurnFault>
+    pub fn drain<T: FileTree, D: Device>(
+        &mut self,
+        tree: &mut T,
+        dev: &mut D,
+    ) -> Result<u64, TurnFault>
         requires tree { IsItsTree self.old (T.tells tree.old) (T.disk tree.old) }
         requires device { IsItsDevice self.old (D.tells dev.old) (D.state dev.old) }
         ensures number { IfOk result (λ last. last ≡ self.old.queue.last) }

@@ -18,17 +18,34 @@ second (a ∷ b ∷ rest) = b
 
 -- three steps or more, but not those of the key's file
 pub off_long : (q : Path) → 3 ≤ length q → q ≢ key_path → Off store_paths q
-off_long q long not_key =
-  (shorter q version_path 1 refl (omega (arith, long)),
-  (shorter q current 1 refl (omega (arith, long)),
-  (shorter q omap 2 refl (omega (arith, long)),
-  (shorter q aside 2 refl (omega (arith, long)),
-  (shorter q trash 2 refl (omega (arith, long)),
-  (shorter q number_path 2 refl (omega (arith, long)),
-  (not_key,
-  (shorter q fsid_path 1 refl (omega (arith, long)),
-  (shorter q settings_path 1 refl (omega (arith, long)),
-  tt)))))))))
+off_long q long not_key = (
+  shorter q version_path 1 refl (omega (arith, long)),
+  (
+    shorter q current 1 refl (omega (arith, long)),
+    (
+      shorter q omap 2 refl (omega (arith, long)),
+      (
+        shorter q aside 2 refl (omega (arith, long)),
+        (
+          shorter q trash 2 refl (omega (arith, long)),
+          (
+            shorter q number_path 2 refl (omega (arith, long)),
+            (
+              not_key,
+              (
+                shorter q fsid_path 1 refl (omega (arith, long)),
+                (
+                  shorter q settings_path 1 refl (omega (arith, long)),
+                  tt,
+                ),
+              ),
+            ),
+          ),
+        ),
+      ),
+    ),
+  ),
+)
 
 pub off_deep : (q : Path) → 4 ≤ length q → Off store_paths q
 off_deep q long = off_long q (omega (arith, long)) (shorter q key_path 3 refl long)
@@ -48,20 +65,38 @@ pub record IsOther (b : List ℕ) : Type 0 where
   pub number : b ≢ codes "commit_op_seq"
 
 pub off_name : (b : List ℕ) → IsOther b → Off store_paths (codes "current" ∷ b ∷ [])
-off_name b other =
-  (shorter (codes "current" ∷ b ∷ []) version_path 1 refl two,
-  (shorter (codes "current" ∷ b ∷ []) current 1 refl two,
-  ((λ same. other.maps (ap second same)),
-  ((λ same. other.building (ap second same)),
-  ((λ same. other.removed (ap second same)),
-  ((λ same. other.number (ap second same)),
-  (longer (codes "current" ∷ b ∷ []) key_path 3 refl under,
-  (shorter (codes "current" ∷ b ∷ []) fsid_path 1 refl two,
-  (shorter (codes "current" ∷ b ∷ []) settings_path 1 refl two,
-  tt)))))))))
+off_name b other = (
+  shorter (codes "current" ∷ b ∷ []) version_path 1 refl two,
+  (
+    shorter (codes "current" ∷ b ∷ []) current 1 refl two,
+    (
+      (λ same. other.maps (ap second same)),
+      (
+        (λ same. other.building (ap second same)),
+        (
+          (λ same. other.removed (ap second same)),
+          (
+            (λ same. other.number (ap second same)),
+            (
+              longer (codes "current" ∷ b ∷ []) key_path 3 refl under,
+              (
+                shorter (codes "current" ∷ b ∷ []) fsid_path 1 refl two,
+                (
+                  shorter (codes "current" ∷ b ∷ []) settings_path 1 refl two,
+                  tt,
+                ),
+              ),
+            ),
+          ),
+        ),
+      ),
+    ),
+  ),
+)
   where
     two : 1 < length (codes "current" ∷ b ∷ [])
     two = omega arith
+
     under : length (codes "current" ∷ b ∷ []) < 3
     under = omega arith
 

@@ -4,7 +4,6 @@ use Rattle.fs_model.specs.Objects.{Objects}
 use Rattle.tree_places.specs.Images.{Image}
 use Rattle.file_store.specs.Store.{Store}
 use Rattle.store_opening.specs.Mounts.{ExplainsOf, IsFoundFirst, IsOutside, MountsAs}
-
 use Rattle.store_opening.proofs.Opened.{shows_mounted, mounts_as, carry_then, trees_then}
 use Rattle.store_opening.proofs.Found.{explains_of, found_below, outside_of, outside_late, outside_explains}
 use Rattle.store_opening.proofs.opening.open.Goals as goal
