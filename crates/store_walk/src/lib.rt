@@ -17,8 +17,3 @@ mod tidying;
 pub use emptying::sweep_trash;
 pub use looking::look_over;
 pub use tidying::tidy;
-
-#[cfg(test)]
-mod tests;
-#[cfg(test)]
-mod trials;
