@@ -1,3 +1,0 @@
-mod Opened
-mod Found
-mod Refused

@@ -1,2 +1,0 @@
-pub mod Mounts
-pub mod Faults
