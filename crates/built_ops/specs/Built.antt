@@ -1,5 +1,6 @@
 -- Operations that a store of files does so far. Copies, moves and what concerns the omap are still to come.
-use Rattle.std.specs.Prelude.{◌≡◌, ◌≤◌, ℕ, Bool, true, false, List, length, slice_get, Some}
+use Rattle.std.specs.Prelude.{◌≡◌, ◌≤◌, ℕ, Bool, true, false, not, List, length, slice_get, Option, Some}
+use Rattle.std.specs.List.{position}
 use Rattle.fs_model.specs.declared.op.Op.{Op}
 use Rattle.fs_model.specs.declared.op.Op.TheVariants.{Clone, CloneRange, MoveRename, OmapClear, OmapSet, OmapRemove, OmapRange}
 use Rattle.fs_model.specs.Check.{IsWithinLimits}
@@ -13,6 +14,10 @@ is_built (OmapSet c o header pairs) = false
 is_built (OmapRemove c o keys) = false
 is_built (OmapRange c o from to) = false
 is_built _ = true
+
+-- the lowest place of an operation that isn't built
+abbrev pub unbuilt_in : List Op → Option ℕ
+unbuilt_in = position (λ op. not (is_built op))
 
 -- each operation is built, and has no fault of its own
 abbrev pub AllFit : List Op → Type 0

@@ -1,0 +1,12 @@
+//! The transactions of a store that wait for a drain: which are taken, and what is known of those that are.
+#![tactic(auto)]
+
+mod fault;
+mod queue;
+mod room;
+
+pub use fault::QueueFault;
+pub use queue::Queue;
+
+#[cfg(test)]
+mod tests;
