@@ -1,14 +1,19 @@
 -- Why a run stops, its status and its last line.
-use Rattle.std.specs.Prelude.{◌≡◌, ◌⊎◌, ℕ, List, [], ◌∷◌, ◌++◌, codes}
+use Rattle.std.specs.Prelude.{◌≡◌, ◌⊎◌, ℕ, List, [], ◌++◌, drop, codes}
+use Rattle.std.specs.List.{flat_map}
 use Rattle.std.specs.Fmt.{decimal}
 use Rattle.hex.specs.Hex.{encode_lower}
 use Rattle.io_edge.specs.Flow.{Outflow}
 use Rattle.tree_api.specs.Tree.{Path}
 use Rattle.fs_script.specs.Printed.{line_text, refusal_text}
-use Rattle.file_store.specs.declared.new_store.MakeFault.{MakeFault}
-use Rattle.file_store.specs.declared.new_store.MakeFault.TheVariants as make
-use Rattle.file_store.specs.declared.mounting.MountFault.{MountFault}
-use Rattle.file_store.specs.declared.mounting.MountFault.TheVariants as mount
+use Rattle.store_making.specs.declared.fault.MakeFault.{MakeFault}
+use Rattle.store_making.specs.declared.fault.MakeFault.TheVariants as make
+use Rattle.store_opening.specs.declared.fault.MountFault.{MountFault}
+use Rattle.store_opening.specs.declared.fault.MountFault.TheVariants as mount
+use Rattle.file_store.specs.declared.fault.TurnFault.{TurnFault}
+use Rattle.file_store.specs.declared.fault.TurnFault.TheVariants as turn
+use Rattle.script_store.specs.declared.fault.StepFault.{StepFault}
+use Rattle.script_store.specs.declared.fault.StepFault.TheVariants as stepping
 use Rattle.filestore_cli.specs.declared.stop.Refusal.{Refusal}
 use Rattle.filestore_cli.specs.declared.stop.Refusal.TheVariants.{Script, Store, Size, NotEmpty, Damaged}
 use Rattle.filestore_cli.specs.declared.stop.Stop.{Stop}
@@ -31,11 +36,16 @@ read_line = line_text (codes "fault: read")
 abbrev pub memory_line : List ℕ
 memory_line = line_text (codes "fault: memory")
 
+-- each step behind a slash
+abbrev pub slashed : Path → List ℕ
+slashed path = flat_map (λ step. codes "/" ++ step) path
+
 -- the steps of a path with a slash between them
 abbrev pub path_text : Path → List ℕ
-path_text [] = []
-path_text (step ∷ []) = step
-path_text (step ∷ next ∷ rest) = step ++ (codes "/" ++ path_text (next ∷ rest))
+path_text path = drop 1 (slashed path)
+
+abbrev pub damaged_line : Path → List ℕ
+damaged_line path = line_text (codes "store: damaged " ++ path_text path)
 
 -- a store that is not mounted
 abbrev pub mount_line : MountFault → List ℕ
@@ -47,7 +57,7 @@ mount_line (mount.WrongFsid tree ring) = line_text (codes "store: fsid " ++ enco
 mount_line mount.Spent = line_text (codes "store: ring spent")
 mount_line mount.BadSeq = line_text (codes "store: bad number")
 mount_line (mount.JournalGap start committed) = line_text (codes "store: journal gap " ++ decimal start ++ codes " " ++ decimal committed)
-mount_line (mount.Damaged path) = line_text (codes "store: damaged " ++ path_text path)
+mount_line (mount.Damaged path) = damaged_line path
 mount_line (mount.BadEntry seq) = line_text (codes "store: bad entry " ++ decimal seq)
 mount_line mount.Tree = tree_line
 mount_line mount.Device = device_line
@@ -57,7 +67,7 @@ abbrev pub refused_line : Refusal → List ℕ
 refused_line (Script line why) = refusal_text line why
 refused_line (Store fault) = mount_line fault
 refused_line NotEmpty = line_text (codes "store: not empty")
-refused_line (Damaged path) = line_text (codes "store: damaged " ++ path_text path)
+refused_line (Damaged path) = damaged_line path
 refused_line (Size size) = line_text (codes "store: device size " ++ decimal size)
 
 abbrev pub refused_status : Refusal → ℕ
@@ -108,3 +118,17 @@ mount_stop mount.Tree = Tree
 mount_stop mount.Device = Device
 mount_stop mount.Memory = Memory
 mount_stop fault = Refused (Store fault)
+
+-- what it is to a run that a statement wasn't done, or that the store wasn't closed
+abbrev pub step_stop : StepFault → Stop
+step_stop stepping.Tree = Tree
+step_stop stepping.Device = Device
+step_stop (stepping.Damaged path) = Refused (Damaged path)
+step_stop stepping.Memory = Memory
+
+abbrev pub close_stop : TurnFault → Stop
+close_stop turn.Tree = Tree
+close_stop turn.Device = Device
+close_stop (turn.Damaged path) = Refused (Damaged path)
+close_stop turn.Memory = Memory
+close_stop (turn.Broken first) = Memory
