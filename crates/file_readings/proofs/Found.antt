@@ -1,5 +1,5 @@
 -- Where a collection and an object are found.
-use Rattle.std.proofs.Common.{◌≡◌, ◌≢◌, ⊎_elim, ℕ, ◌+◌, ◌≤◌, Bool, true, false, ◌&&◌, List, [], ◌∷◌, ◌++◌, length, codes, refl, sym, ◌∙◌, ap, subst, arith, Option, Some, None, is_some, Result, Ok, Err, IfOk}
+use Rattle.std.proofs.Common.{◌≡◌, ◌≢◌, ⊎_elim, ℕ, ◌+◌, ◌≤◌, true, ◌&&◌, List, [], ◌∷◌, ◌++◌, length, codes, refl, sym, ◌∙◌, ap, subst, arith, Option, Some, None, is_some, Result, Ok, Err, IfOk}
 use Rattle.std.specs.Option.{option_map}
 use Rattle.std.specs.FinMap as map
 use Rattle.std.proofs.lemmas.Bool.{and_from}
@@ -9,11 +9,11 @@ use Rattle.fs_names.specs.declared.oid.Oid.{Oid}
 use Rattle.fs_names.specs.declared.settings.Settings.{Settings}
 use Rattle.fs_names.specs.Reading.{CollFits, OidFits}
 use Rattle.fs_names.specs.Text.{field_text, name_text, snap_text, hash_text, pool_text, oid_text}
-use Rattle.fs_model.specs.Objects.{Object, Objects, Shelf, look, on_shelf}
-use Rattle.tree_api.specs.Tree.{Path, Version, Tree, held, IsDir, IsFile}
+use Rattle.fs_model.specs.Objects.{Object, Objects, Shelf, look}
+use Rattle.tree_api.specs.Tree.{Path, Version, Tree, held, IsDir}
 use Rattle.tree_api.specs.Disk.{Disk, Stays}
 use Rattle.index_fault.specs.declared.IndexFault.{IndexFault}
-use Rattle.lfn_index.specs.Directory.{entry, Finds, IsBlocked}
+use Rattle.lfn_index.specs.Directory.{entry, IsBlocked}
 use Rattle.lfn_index.specs.Maps.{Map, IsMap, IsInMap, content, Whole}
 use Rattle.lfn_index.proofs.Once.{dir_no_file}
 use Rattle.tree_stands.specs.Names.{coll_fits}
@@ -25,29 +25,13 @@ use Rattle.file_readings.specs.Finding.{IsPathOf}
 
 -- ---- whether a collection is there
 
-false_right : (b : Bool) → (b && false) ≡ false
-false_right true = refl
-false_right false = refl
-
-pub not_there : (t : Tree) (c : Coll) → t.at (dir_of c) ≡ None → is_there t c ≡ false
-not_there t c none =
-    ap (λ (x : Option ℕ). coll_fits c && is_some (option_map guard_of (held x t.node))) none ∙ false_right (coll_fits c)
-
 pub there : (t : Tree) (c : Coll) → CollFits c → (n : ℕ) → t.at (dir_of c) ≡ Some n → is_there t c ≡ true
 there t c fits n at =
     ap (λ (x : Option ℕ). coll_fits c && is_some (option_map guard_of (held x t.node))) at ∙ and_from (coll_fits c) true (coll_is_fit c fits) refl
 
-pub none_of : {X : Type 0} (o : Option X) → is_some o ≡ false → o ≡ None
-none_of None e = refl
-none_of (Some x) e = cc
-
 pub some_of : {X : Type 0} (o : Option X) → is_some o ≡ true → (x : X) × (o ≡ Some x)
 some_of None e = cc
 some_of (Some x) e = (x, refl)
-
--- a missing collection has no objects
-pub no_shelf : (set : Settings) (O : Objects) (t : Tree) (c : Coll) → Shows set O t → t.at (dir_of c) ≡ None → map.get O c ≡ None
-no_shelf set O t c shows none = none_of (map.get O c) (sym (shows.colls c) ∙ not_there t c none)
 
 -- one that is there has a shelf
 pub shelf_there : (set : Settings) (O : Objects) (t : Tree) (c : Coll) → CollFits c → Shows set O t → IsDir t (dir_of c) → (s : Shelf) × (map.get O c ≡ Some s)

@@ -1,6 +1,6 @@
 -- The objects of files, gathered in a set and taken out of it in order.
-use Rattle.std.proofs.Common.{◌≡◌, ℕ, ◌+◌, ◌<◌, ◌≤◌, Bool, true, false, not, cond, ◌||◌, List, [], ◌∷◌, ◌++◌, length, take, map as map_list, refl, sym, ◌∙◌, ap, arith, append_assoc, length-append, Option, Some, None}
-use Rattle.std.specs.Prelude.{◌↔◌, IsSome, slice_get, option_to_list}
+use Rattle.std.proofs.Common.{◌≡◌, ℕ, ◌<◌, ◌≤◌, Bool, true, false, cond, ◌||◌, List, [], ◌∷◌, ◌++◌, length, take, refl, sym, ◌∙◌, ap, arith, Option, Some, None}
+use Rattle.std.specs.Prelude.{◌↔◌, IsSome, slice_get}
 use Rattle.std.specs.List.{filter, list_any}
 use Rattle.std.specs.Ordering.{eq_by_cmp}
 use Rattle.std.specs.Cmp.{eq_by_cmp_equiv}
@@ -10,7 +10,6 @@ use Rattle.std.proofs.lemmas.List.Folds.{list_any-append}
 use Rattle.std.proofs.lemmas.Option.{slice_get_past}
 use Rattle.fs_names.specs.declared.oid.Oid.{Oid}
 use Rattle.fs_names.specs.Order.{oid_cmp, oid_cmp_total}
-use Rattle.fs_model.specs.declared.page.Page.{Page}
 use Rattle.fs_model.specs.Listing.{page_of}
 use Rattle.lfn_index.specs.declared.listing.Found.{Found}
 use Rattle.file_readings.specs.Listed.{oids_of}
@@ -28,13 +27,6 @@ any q = list_any (eq_by_cmp oid_cmp q)
 abbrev pub AreGathered : List Found → List Found → List Oid → Type 0
 AreGathered files left oids = (q : Oid) → list_any (eq_by_cmp oid_cmp q) (oids_of files) ≡ (list_any (eq_by_cmp oid_cmp q) (oids_of left) || list_any (eq_by_cmp oid_cmp q) oids)
 
-pub gathered_none : (files : List Found) (oids : List Oid) → oids ≡ [] → AreGathered files files oids
-gathered_none files oids is q = sym (ap (λ (l : List Oid). any q (oids_of files) || any q l) is ∙ no_more (any q (oids_of files)))
-  where
-    no_more : (b : Bool) → (b || false) ≡ b
-    no_more true = refl
-    no_more false = refl
-
 pub gathered_more : (files left now : List Found) (old new : List Oid) (f : Found) → AreGathered files left old → left ≡ now ++ f ∷ []
     → ((q : Oid) → list_any (eq_by_cmp oid_cmp q) new ≡ cond (eq_by_cmp oid_cmp f.oid q) true (list_any (eq_by_cmp oid_cmp q) old)) → AreGathered files now new
 gathered_more files left now old new f are is added q =
@@ -50,9 +42,6 @@ gathered_more files left now old new f are is added q =
     joined false true o = refl
     joined false false o = refl
 
-pub gathered_all : (files left : List Found) (oids : List Oid) → AreGathered files left oids → left ≡ [] → (q : Oid) → list_any (eq_by_cmp oid_cmp q) oids ≡ list_any (eq_by_cmp oid_cmp q) (oids_of files)
-gathered_all files left oids are none q = sym (are q ∙ ap (λ (l : List Found). any q (oids_of l) || any q oids) none)
-
 -- ---- a page
 
 seam : (page rest : List Oid) (x : Oid) → slice_get (page ++ x ∷ rest) (length page) ≡ Some x
@@ -60,18 +49,8 @@ seam [] rest x = refl
 seam (o ∷ page) rest x = seam page rest x
 
 module _ (p : Oid → Bool) (all page left : List Oid) (are : filter p all ≡ page ++ filter p left) where
-  passed_over : (x : Oid) (rest : List Oid) → left ≡ x ∷ rest → p x ≡ false → filter p left ≡ filter p rest
-  passed_over x rest is fails = ap (filter p) is ∙ ap (λ (b : Bool). cond b (x ∷ filter p rest) (filter p rest)) fails
-
   taken : (x : Oid) (rest : List Oid) → left ≡ x ∷ rest → p x ≡ true → filter p left ≡ x ∷ filter p rest
   taken x rest is passes = ap (filter p) is ∙ ap (λ (b : Bool). cond b (x ∷ filter p rest) (filter p rest)) passes
-
-  pub page_over : (x : Oid) (rest : List Oid) → left ≡ x ∷ rest → p x ≡ false → filter p all ≡ page ++ filter p rest
-  page_over x rest is fails = are ∙ ap (λ (l : List Oid). page ++ l) (passed_over x rest is fails)
-
-  pub page_more : (x : Oid) (rest now : List Oid) → left ≡ x ∷ rest → p x ≡ true → now ≡ page ++ x ∷ [] → filter p all ≡ now ++ filter p rest
-  page_more x rest now is passes more =
-      are ∙ ap (λ (l : List Oid). page ++ l) (taken x rest is passes) ∙ sym (append_assoc page (x ∷ []) (filter p rest)) ∙ ap (λ (l : List Oid). l ++ filter p rest) (sym more)
 
   pub page_full : (x : Oid) (rest : List Oid) (max : ℕ) → left ≡ x ∷ rest → p x ≡ true → length page ≡ max → record { oids = page; next = Some x } ≡ page_of (filter p all) max
   page_full x rest max is passes n =

@@ -26,13 +26,11 @@ use Rattle.fs_model.proofs.Listings.{keys-are}
 use Rattle.tree_api.specs.Answer.{Before, RisingSteps, HaveSteps, IsListing, kind_of}
 use Rattle.tree_api.specs.Tree.{Path, Version, Tree, held, current}
 use Rattle.tree_api.specs.declared.tree.Entry.{Entry}
-use Rattle.tree_api.specs.declared.tree.Kind.{Kind}
-use Rattle.tree_api.specs.declared.tree.Kind.TheVariants.{File, Dir}
+use Rattle.tree_api.specs.declared.tree.Kind.TheVariants.{File}
 use Rattle.tree_stands.specs.Names.{coll_fits}
 use Rattle.tree_stands.specs.Trees.{dir_of, dir_guard, guard_of}
 use Rattle.tree_stands.proofs.Names.{both, fit_coll}
 use Rattle.op_effects.specs.Clear.{IsClear}
-use Rattle.op_places.specs.Places.{is_there}
 use Rattle.tree_shows.specs.Shows.{Shows}
 use Rattle.file_readings.specs.Listed.{coll_at, colls_in, HasCollFile}
 use Rattle.file_readings.proofs.Found.{there}

@@ -1,5 +1,5 @@
 -- The pairs of an object's file are those of the object.
-use Rattle.std.proofs.Common.{◌≡◌, ⊎_elim, ℕ, Bool, true, false, cond, List, [], ◌∷◌, ◌++◌, length, get_or, map as map_list, refl, sym, ◌∙◌, ap, subst, arith, Option, Some, None, is_some}
+use Rattle.std.proofs.Common.{◌≡◌, ⊎_elim, ℕ, Bool, true, false, cond, List, [], ◌∷◌, length, get_or, map as map_list, refl, sym, ◌∙◌, ap, subst, arith, Option, Some, None, is_some}
 use Rattle.std.specs.Prelude.{Contains}
 use Rattle.std.specs.declared.cmp.Ordering.{Ordering}
 use Rattle.std.specs.declared.cmp.Ordering.TheVariants.{Less, Equal, Greater}
@@ -12,7 +12,7 @@ use Rattle.std.specs.FinMap.Entries.{find}
 use Rattle.std.proofs.lemmas.Bool.{cases_Bool}
 use Rattle.std.proofs.lemmas.List.Elements.{Contains-append_right, Contains-append_cases}
 use Rattle.tree_api.specs.Tree.{Version}
-use Rattle.object_file.specs.Attrs.{attr_name, ArePairs, pair_names}
+use Rattle.object_file.specs.Attrs.{ArePairs, pair_names}
 use Rattle.object_file.specs.declared.attrs.AttrPair.{AttrPair}
 use Rattle.fs_model.specs.declared.pair.Pair.{Pair}
 use Rattle.fs_model.specs.Objects.{Object, ByteMap}

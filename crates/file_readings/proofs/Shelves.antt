@@ -1,5 +1,5 @@
 -- What is listed in a collection's directory are the objects of its shelf.
-use Rattle.std.proofs.Common.{◌≡◌, ◌≢◌, ⊎_elim, ℕ, Bool, true, false, List, [], ◌∷◌, ◌++◌, length, map as map_list, refl, sym, ◌∙◌, ap, subst, arith, ◌<◌, get_or, Option, Some, None, is_some}
+use Rattle.std.proofs.Common.{◌≡◌, ⊎_elim, ℕ, true, List, [], ◌∷◌, length, refl, sym, ◌∙◌, ap, subst, arith, Option, Some, None, is_some}
 use Rattle.std.specs.Prelude.{All, Contains}
 use Rattle.std.specs.List.{filter, list_any}
 use Rattle.std.specs.List.Sorted.{IsStrictlySortedBy}
@@ -26,7 +26,7 @@ use Rattle.tree_api.specs.Disk.{Disk, Sound, Stays}
 use Rattle.tree_api.specs.Tree.{Path, Version, Tree, held, IsDir}
 use Rattle.lfn_index.specs.Directory.{entry, IsFileOf}
 use Rattle.lfn_index.specs.Listing.{AreNames, IsFirstDamage, IsFound, IsTwice, IsUnknown}
-use Rattle.lfn_index.specs.Maps.{Map, IsMap, Whole, content}
+use Rattle.lfn_index.specs.Maps.{Whole, content}
 use Rattle.lfn_index.specs.declared.listing.Found.{Found}
 use Rattle.lfn_index.proofs.Seen.{never_before}
 use Rattle.tree_stands.specs.Trees.{dir_of, AllWhole}
@@ -101,10 +101,6 @@ page_listed set O c fits d0 d1 stays shows dir is there fs names l sorted alike 
     let keys : l ≡ map.keys shelf.0 = keys_listed set O d0.tree c fits shows shelf.0 shelf.1 fs here l sorted alike in
     ap Some (page_is ∙ ap (λ (k : List Oid). page_of (filter (at_or_after cursor) k) max) keys)
     ∙ sym (ap (option_map (λ (s : Shelf). page_of (from_cursor s cursor) max)) shelf.1)
-
--- of a missing collection none
-pub none_listed : (set : Settings) (O : Objects) (t : Tree) (c : Coll) → map.get O c ≡ None → (cursor : Option Oid) (max : ℕ) → None ≡ listing O c cursor max
-none_listed set O t c none cursor max = sym (ap (option_map (λ (s : Shelf). page_of (from_cursor s cursor) max)) none)
 
 -- ---- nothing is damaged
 

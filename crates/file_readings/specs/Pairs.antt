@@ -1,5 +1,5 @@
 -- Pairs of names and values.
-use Rattle.std.specs.Prelude.{List, ℕ, map as map_list}
+use Rattle.std.specs.Prelude.{List, map as map_list}
 use Rattle.std.specs.FinMap as map
 use Rattle.fs_model.specs.declared.pair.Pair.{Pair}
 use Rattle.fs_model.specs.Objects.{ByteMap}

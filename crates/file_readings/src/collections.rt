@@ -58,7 +58,7 @@ fn read_all(alloc: Global, entries: &[Entry]) -> Result<CollNames, IndexFault>
     Ok(CollNames::from_vec(colls))
 }
 
-/// The collections, in the order of their texts. `current` is listed once.
+/// The collections, in the order of their texts. `current` is listed once. Only the contract speaks of the settings.
 pub fn colls<T: FileTree>(
     alloc: Global,
     tree: &mut T,

@@ -14,3 +14,8 @@ mod pairs;
 pub use collections::colls;
 pub use listing::list;
 pub use objects::{attrs, omap, read, stat};
+
+#[cfg(test)]
+mod tests;
+#[cfg(test)]
+mod trials;

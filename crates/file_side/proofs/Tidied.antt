@@ -3,7 +3,7 @@ use Rattle.std.proofs.Common.{◌≡◌, ℕ, List}
 use Rattle.fs_names.specs.declared.coll.Coll.TheVariants.{Meta}
 use Rattle.fs_names.specs.declared.settings.Settings.{Settings}
 use Rattle.tree_api.specs.Tree.{Path, Tree}
-use Rattle.tree_api.specs.Disk.{Disk, Sound, Everywhere, Keeps, From, Moves, Leaves}
+use Rattle.tree_api.specs.Disk.{Disk, Sound, Everywhere, Keeps, From, Leaves}
 use Rattle.tree_api.proofs.Moments.{wider, weaker}
 use Rattle.lfn_index.specs.Changes.{aside}
 use Rattle.lfn_index.specs.Directory.{entry}
@@ -16,8 +16,7 @@ use Rattle.store_history.specs.History.{History, end_of}
 use Rattle.store_turns.specs.declared.numbers.How.{How}
 use Rattle.store_turns.specs.declared.numbers.How.TheVariants.{Live, Replay}
 use Rattle.tree_places.specs.Line.{ops_to, count_to, At}
-use Rattle.tree_places.specs.Images.{IsOwn, Image, reads}
-use Rattle.tree_places.specs.Underway.{OwnIs}
+use Rattle.tree_places.specs.Images.{Image, reads}
 use Rattle.tree_places.proofs.Own.{own_law}
 use Rattle.tree_places.proofs.Underway.{own_keeps_off, image_keeps}
 use Rattle.apply_ops.specs.Next.{IsReady}

@@ -1,10 +1,10 @@
 -- Behind a whole sync, and behind a committed number that is written, operations may be done.
-use Rattle.std.proofs.Common.{◌≡◌, ◌⊎◌, inl, inr, ⊎_elim, ℕ, ◌<◌, ◌≤◌, ◌^◌, List, refl, sym, ◌∙◌, ap, subst, Option, Some, Result, Ok, Err, OnOk}
+use Rattle.std.proofs.Common.{◌≡◌, ◌⊎◌, inl, ⊎_elim, ℕ, ◌<◌, ◌^◌, List, refl, sym, ◌∙◌, ap, subst, Some, Result, Ok, Err, OnOk}
 use Rattle.std.specs.Prelude.{IsOk}
 use Rattle.fs_names.specs.declared.coll.Coll.{Coll}
 use Rattle.fs_names.specs.declared.settings.Settings.{Settings}
 use Rattle.fs_names.specs.Reading.{CollFits}
-use Rattle.tree_api.specs.Tree.{Path, Version, Tree, look}
+use Rattle.tree_api.specs.Tree.{Version, Tree, look}
 use Rattle.tree_api.specs.Disk.{Disk, Sound, Stays, SyncedAll, Everywhere, Keeps, From, Leaves}
 use Rattle.tree_api.proofs.Moments.{now_from, weaker}
 use Rattle.lfn_index.specs.Directory.{lfn_name, entry}

@@ -49,8 +49,8 @@ fn look_objects<T: FileTree>(
     if listed.subdirs.is_empty() {
         return Ok(());
     }
-    let path = subdir_path(alloc, dir, listed.subdirs[0])?;
-    Err(IndexFault::Damaged { path })
+    let subdir = subdir_path(alloc, dir, listed.subdirs[0])?;
+    Err(IndexFault::Damaged { path: subdir })
 }
 
 /// The same of what is of this kind.

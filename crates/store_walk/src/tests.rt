@@ -14,7 +14,8 @@ const SETTINGS: Settings = Settings {
     mode: Mode::WriteAhead,
 };
 
-// A path in `current`.
+// A directory of a store.
+#[derive(Clone, Copy, Drop)]
 enum Place {
     Current,
     Aside,
@@ -22,7 +23,7 @@ enum Place {
     Coll,
 }
 
-fn place(alloc: Global, at: Place) -> Result<TreePath, IndexFault> {
+fn path_of(alloc: Global, at: Place) -> Result<TreePath, IndexFault> {
     let current = TreePath::root(alloc).join(b"current")?;
     match at {
         Place::Current => Ok(current),
@@ -38,7 +39,7 @@ fn with_dir(
     at: Place,
     step: &[u8],
 ) -> Result<(), IndexFault> {
-    let dir = place(alloc, at)?;
+    let dir = path_of(alloc, at)?;
     add_dir(tree, &dir, step)?;
     Ok(())
 }
@@ -49,7 +50,7 @@ fn with_file(
     at: Place,
     step: &[u8],
 ) -> Result<(), IndexFault> {
-    let dir = place(alloc, at)?;
+    let dir = path_of(alloc, at)?;
     add_file(tree, &dir, step)?;
     Ok(())
 }
@@ -112,7 +113,7 @@ fn a_tree_that_is_too_deep_is_damage(rt: HostRuntime) -> Result<(), IndexFault> 
 // Whether a directory with this name there is damage, and whether a file is.
 fn damage(alloc: Global, at: Place, step: &[u8]) -> Result<(bool, bool), IndexFault> {
     let mut one = bare(alloc, Vec::new(alloc))?;
-    let dir = place(alloc, at)?;
+    let dir = path_of(alloc, at)?;
     add_dir(&mut one, &dir, step)?;
     let first = look_over(alloc, &mut one, &SETTINGS);
     let mut two = bare(alloc, Vec::new(alloc))?;

@@ -1,19 +1,23 @@
-use Rattle.std.proofs.Common.{rules, ◌≡◌, ◌≢◌, ◌++◌, Err, IfOk, OnOk, IsErrOf, option_to_list, ℕ, ◌+◌, ◌-◌, ◌*◌, ◌<◌, ◌≤◌, length, ◌/◌, ◌%◌, Bool, true, false, nat_eq, nat_lt, List, [], ◌∷◌, slice_index_or, slice_set, bit_and, bit_or, Fits, w8, w32, w64, Bor, MutBor}
-use Rattle.std.specs.FinMap as map
-use Rattle.fs_model.specs.Objects.{Objects}
-use Rattle.tree_api.specs.Counts.{Counts}
-use Rattle.tree_api.specs.Disk.{Still}
-use Rattle.tree_api.specs.Tree.{Path, IsDir, current}
-use Rattle.tree_stands.specs.Trees.{AllWhole}
-use Rattle.op_effects.specs.Clear.{IsClear}
-use Rattle.tree_shows.specs.Shows.{Shows}
-use Rattle.file_readings.specs.Listed.{coll_at, colls_in, IsCollFile, HasCollFile}
+use Rattle.std.proofs.Common.{◌≡◌, ◌++◌, ◌∷◌, [], List, codes, IfOk, sym, subst, ap, ◌∙◌}
+use Rattle.fs_names.specs.declared.coll.Coll.{Coll}
+use Rattle.tree_api.specs.Answer.{IsListing}
+use Rattle.tree_api.specs.Tree.{Path, current}
+use Rattle.tree_api.specs.declared.tree.Entry.{Entry}
+use Rattle.file_readings.proofs.Named.{no_coll_file, colls_are}
 use Rattle.file_readings.proofs.collections.colls.Goals as goal
 
--- src/collections.rt:62:1
 pub returns-clause-undamaged : goal.returns-clause-undamaged
-returns-clause-undamaged g c = ?
+returns-clause-undamaged g c = λ t whole clear p is.
+    let tree = (g.T.FileTree.disk c.args.tree.now).tree in
+    let path : c.in_ok-current.current ≡ current = c.in_ok-current.ensures ∙ ap (λ (q : Path). q ++ codes "current" ∷ []) c.root.ensures in
+    let listing = subst (λ (es : List Entry). IsListing tree current es) (sym c.deref.ensures.value)
+    (subst (λ (q : Path). IsListing tree q c.in_ok-entries.entries.items) path (c.in_ok-entries.ensures.entries t)) in
+    no_coll_file tree c.deref.result.now listing clear (c.read_all.ensures.damaged p is)
 
--- src/collections.rt:62:1
 pub returns-clause-reads : goal.returns-clause-reads
-returns-clause-reads g c = ?
+returns-clause-reads g c = λ t O shows clear.
+    let tree = (g.T.FileTree.disk c.args.tree.now).tree in
+    let path : c.in_ok-current.current ≡ current = c.in_ok-current.ensures ∙ ap (λ (q : Path). q ++ codes "current" ∷ []) c.root.ensures in
+    let listing = subst (λ (es : List Entry). IsListing tree current es) (sym c.deref.ensures.value)
+    (subst (λ (q : Path). IsListing tree q c.in_ok-entries.entries.items) path (c.in_ok-entries.ensures.entries t)) in
+    subst (λ (l : List Coll). IfOk c.read_all.result (λ colls. colls ≡ l)) (colls_are tree c.deref.result.now listing c.args.set.now O shows) c.read_all.ensures.colls

@@ -1,4 +1,4 @@
-use Rattle.std.proofs.Common.{◌∙◌, ◌++◌, List, ap, option_to_list, Option}
+use Rattle.std.proofs.Common.{◌∙◌, ◌++◌, ap, option_to_list, Option}
 use Rattle.fs_names.specs.declared.coll.Coll.{Coll}
 use Rattle.file_readings.proofs.Named.{colls_more}
 use Rattle.file_readings.proofs.collections.read_all.Goals as goal

@@ -1,19 +1,21 @@
-use Rattle.std.proofs.Common.{rules, ◌≡◌, ◌≢◌, ◌+◌, ◌<◌, ◌^◌, ℕ, List, length, take, drop, Err, IfOk, IsErrOf, ◌-◌, ◌*◌, ◌≤◌, ◌/◌, ◌%◌, Bool, true, false, nat_eq, nat_lt, [], ◌∷◌, ◌++◌, slice_index_or, slice_set, bit_and, bit_or, Fits, w8, w32, w64, Bor, MutBor}
-use Rattle.std.specs.Option.{option_map}
-use Rattle.fs_model.specs.Objects.{Objects, look}
-use Rattle.tree_api.specs.Counts.{Counts}
-use Rattle.tree_api.specs.Disk.{Still}
-use Rattle.tree_api.specs.Tree.{Path}
-use Rattle.tree_stands.specs.Trees.{AllWhole}
-use Rattle.op_effects.specs.Clear.{IsClear}
-use Rattle.tree_shows.specs.Shows.{Shows}
-use Rattle.file_readings.specs.Pairs.{pairs_of}
+use Rattle.std.proofs.Common.{rules, map as map_list, subst, ap, ◌∙◌}
+use Rattle.fs_model.specs.Objects.{Object}
+use Rattle.tree_api.specs.Tree.{Version}
+use Rattle.object_file.specs.Attrs.{ArePairs}
+use Rattle.file_readings.specs.Finding.{IsPathOf}
+use Rattle.file_readings.specs.Pairs.{pair_of, pairs_of}
+use Rattle.file_readings.proofs.PairLists.{pairs_are}
+use Rattle.file_readings.proofs.Reading.{none_read, one_read}
 use Rattle.file_readings.proofs.objects.attrs.Goals as goal
 
--- src/objects.rt:101:9
 pub returns-in_default-clause-reads : goal.returns-in_default-clause-reads
-returns-in_default-clause-reads g c = ?
+returns-in_default-clause-reads g c = λ t O shows clear.
+    none_read O c.args.c.now c.args.o.now (g.T.FileTree.disk c.find_file.new.tree).tree c.in_ok-path.field-0 (λ (x : Object). pairs_of x.attrs) c.in_default.is (c.in_ok-path.ensures.path t O shows)
 
--- src/objects.rt:85:1
 pub returns-clause-reads : goal.returns-clause-reads
-returns-clause-reads g c = ?
+returns-clause-reads g c = λ t O shows clear.
+    let tree = (g.T.FileTree.disk c.find_file.new.tree).tree in
+    let attrs = c.in_ok-attrs.attrs.items in
+    one_read O c.args.c.now c.args.o.now tree c.in-Some.path (λ (x : Object). pairs_of x.attrs) c.in_ok-to_pairs.field-0 (λ (v : Version). ArePairs v attrs)
+    (subst (IsPathOf O c.args.c.now c.args.o.now tree) c.in-Some.is (c.in_ok-path.ensures.path (search rules) O shows))
+    (c.in_ok-attrs.ensures.pairs t) (λ v x file are. c.in_ok-to_pairs.ensures ∙ ap (map_list pair_of) c.deref.ensures.value ∙ pairs_are v x attrs file are)
