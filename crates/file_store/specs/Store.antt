@@ -36,6 +36,10 @@ pub record IsCounted (s : Store) : Type 0 where
   pub last : s.queue.last ≡ s.numbers.journalled + length s.queue.txns
   pub size : s.queue.size ≡ s.ring.head.size - 8192
 
+-- they do, unless a fault was met
+abbrev pub IsSound : Store → Type 0
+IsSound s = Works s → IsCounted s
+
 -- it is the tree that the store was mounted on, changed since by this store alone
 abbrev pub IsItsTree : Store → Type 0 → Files → Type 0
 IsItsTree s told t = told → Works s → IsReady s.set t

@@ -37,7 +37,7 @@ pub struct FileStore {
 impl Model for FileStore {
     ghost use Rattle.std.specs.Coded.{codes};
     ghost use Rattle.store_queue.specs.Waiting.{colls_code};
-    ghost use Rattle.file_store.specs.Store.{Store, Works, IsCounted};
+    ghost use Rattle.file_store.specs.Store.{Store, IsSound};
 
     ghost Value = { Store };
 
@@ -45,7 +45,7 @@ impl Model for FileStore {
 
     ghost view = { λ s. record { set = s.parts.set; numbers = s.numbers; ring = s.ring; queue = s.queue; first = s.first } };
 
-    ghost invariant = { λ s. s.first ≡ None → IsCounted (record { set = s.parts.set; numbers = s.numbers; ring = s.ring; queue = s.queue; first = s.first }) };
+    ghost invariant = { λ s. IsSound (record { set = s.parts.set; numbers = s.numbers; ring = s.ring; queue = s.queue; first = s.first }) };
 }
 
 impl FileStore {

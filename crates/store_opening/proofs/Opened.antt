@@ -6,14 +6,20 @@ use Rattle.fs_model.specs.Colls.{CollSet, colls_of}
 use Rattle.tree_api.specs.Tree.{Tree}
 use Rattle.tree_api.specs.Disk.{Disk as Files, Sound, Stays, Keeps, Everywhere}
 use Rattle.tree_api.proofs.Moments.{started, goes_on, joined, weaker, now_from}
-use Rattle.dev_api.specs.Disk.{Disk}
+use Rattle.dev_api.specs.Disk.{Disk, IsImage}
+use Rattle.dev_api.specs.DeviceState.{DeviceState}
+use Rattle.dev_api.specs.Run.{KeepsSince}
+use Rattle.ring_images.specs.Held.{ReadsSound}
+use Rattle.ring_journal.specs.State.{IsSettled, IsUnspentImage}
+use Rattle.store_history.specs.Journal.{EachImage}
 use Rattle.store_history.specs.History.{History, end_of, at}
 use Rattle.store_history.specs.Images.{Images}
 use Rattle.store_history.specs.Pair.{StandsAt}
 use Rattle.store_turns.specs.declared.numbers.Numbers.{Numbers}
 use Rattle.store_turns.specs.State.{Holding}
 use Rattle.store_mount.specs.declared.mounting.Mounted.{Mounted}
-use Rattle.store_mount.specs.Mounts.{Carries, PairsCarry, MountedAs, StandsNow, WasOrStands}
+use Rattle.store_mount.specs.Mounts.{AllStand, Carries, PairsCarry, MountedAs, StandsNow, WasOrServes, WasOrStands}
+use Rattle.store_mount.proofs.Carried.{all_moments}
 use Rattle.store_queue.specs.Waiting.{Waiting, none_waiting}
 use Rattle.tree_places.specs.Images.{Image, reads}
 use Rattle.tree_shows.specs.Shows.{Shows}
@@ -99,3 +105,26 @@ module _ (image : Images Tree) (fsid : List ℕ) where
 
   pub stands_then : (old mid : Files) (d : Disk) (o : Objects) (n last : ℕ) → Stays old mid → StandsNow image fsid old d o n last → StandsNow image fsid mid d o n last
   stands_then old mid d o n last stays s = subst (λ (t : Tree). StandsAt image fsid t d.reads o n last) (sym stays.tree) s
+
+journals_same : (image : Images Tree) (fsid : List ℕ) (before : DeviceState) (o : Objects) (n last : ℕ) → KeepsSince (EachImage (WasOrServes image fsid before.disk o n last)) before before
+journals_same image fsid before o n last = record {
+  has = λ c img so fresh. inl (img, so);
+  since = ([], refl, tt);
+}
+
+-- at each moment of a mount each pair stands for what all stood for before
+pub moments_of : (image : Images Tree) (fsid : List ℕ) (old new : Files) → old.may old.tree → (before now : DeviceState) → IsImage before.disk before.disk.reads → ReadsSound before.disk
+    → IsSettled before.disk → IsUnspentImage before.disk.reads → (o : Objects) (n last : ℕ) → AllStand image fsid o n last old.may before.disk
+    → (StandsNow image fsid old before.disk o n last → Keeps (WasOrStands image fsid old.may before.disk.reads o n last) old new)
+    → (StandsNow image fsid old before.disk o n last → KeepsSince (EachImage (WasOrServes image fsid before.disk o n last)) before now)
+    → Keeps (λ t. KeepsSince (EachImage (λ c. StandsAt image fsid t c o n last)) before now) old new
+moments_of image fsid old new here before now img so settled fresh o n last all trees journals =
+    let stand : (t : Tree) → old.may t → StandsAt image fsid t before.disk.reads o n last = λ t may. all t may before.disk.reads img so fresh in
+    all_moments image fsid old new before now settled o n last stand (trees (stand old.tree here)) (journals (stand old.tree here))
+
+pub untouched_moments : (image : Images Tree) (fsid : List ℕ) (old new : Files) → Sound old → Stays old new → (before : DeviceState) → IsImage before.disk before.disk.reads → ReadsSound before.disk
+    → IsSettled before.disk → IsUnspentImage before.disk.reads → (o : Objects) (n last : ℕ) → AllStand image fsid o n last old.may before.disk
+    → Keeps (λ t. KeepsSince (EachImage (λ c. StandsAt image fsid t c o n last)) before before) old new
+untouched_moments image fsid old new sound stays before img so settled fresh o n last all =
+    moments_of image fsid old new sound.now before before img so settled fresh o n last all
+    (λ s. trees_same image fsid before.disk.reads o n last old new sound stays) (λ s. journals_same image fsid before o n last)

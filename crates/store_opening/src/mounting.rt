@@ -18,6 +18,7 @@ use crate::fault::MountFault;
 use crate::opening::open;
 use dev_api::Device;
 use file_store::FileStore;
+use ring_journal::sound_law;
 use std::alloc::Global;
 use store_files::{Identity, one_law, read_store};
 use tree_api::FileTree;
@@ -79,6 +80,7 @@ pub fn mount<T: FileTree, D: Device>(
     ensures device_faults { (D.state dev.old).faults ≤ (D.state dev.new).faults }
 {
     one_law();
+    sound_law();
     let identity = match identity(alloc, tree) {
         Ok(identity) => identity,
         Err(fault) => return Err(fault),

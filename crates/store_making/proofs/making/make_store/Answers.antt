@@ -18,7 +18,7 @@ returns-in-Err-make_files-clause-refused g c = λ tells refusal.
     let now = g.T.FileTree.disk c.make_files.new.tree in
     let stays = stays_joins old seen mid (g.met.T.FileTree.sound c.args.tree.now (search rules)) (c.look.ensures.still (search rules)).stays (c.settle.ensures.stays (search rules)) in
     let new = c.in-Ok.ensures.fits (search rules) in
-    absurd (begun_new _ mid.tree c.in-Err-make_files.fault (subst IsNew (sym stays.tree) new) (c.make_files.ensures.fits (search rules)) c.make_files.ensures.size refusal)
+    absurd (begun_new _ mid.tree c.in-Err-make_files.fault (subst IsNew (sym stays.tree) new) (c.in-Err-make_files.ensures.fits (search rules)) c.in-Err-make_files.ensures.size refusal)
 
 pub returns-in-Err-make_files-clause-untouched : goal.returns-in-Err-make_files-clause-untouched
 returns-in-Err-make_files-clause-untouched g c = λ tells refusal.
@@ -28,7 +28,7 @@ returns-in-Err-make_files-clause-untouched g c = λ tells refusal.
     let now = g.T.FileTree.disk c.make_files.new.tree in
     let stays = stays_joins old seen mid (g.met.T.FileTree.sound c.args.tree.now (search rules)) (c.look.ensures.still (search rules)).stays (c.settle.ensures.stays (search rules)) in
     let new = c.in-Ok.ensures.fits (search rules) in
-    absurd (begun_new _ mid.tree c.in-Err-make_files.fault (subst IsNew (sym stays.tree) new) (c.make_files.ensures.fits (search rules)) c.make_files.ensures.size refusal)
+    absurd (begun_new _ mid.tree c.in-Err-make_files.fault (subst IsNew (sym stays.tree) new) (c.in-Err-make_files.ensures.fits (search rules)) c.in-Err-make_files.ensures.size refusal)
 
 pub returns-in-Err-make_files-clause-each : goal.returns-in-Err-make_files-clause-each
 returns-in-Err-make_files-clause-each g c = λ tells bare.

@@ -10,9 +10,9 @@ use Rattle.store_history.specs.Pair.{StandsAt}
 use Rattle.tree_places.specs.Images.{Image}
 use Rattle.store_files.specs.Stores.{IsStore}
 use Rattle.store_mount.specs.Mounts.{PairsCarry, StandsNow, AllStand}
-use Rattle.store_mount.proofs.Carried.{all_moments, settled_sound}
+use Rattle.store_mount.proofs.Carried.{settled_sound}
 use Rattle.store_opening.specs.Mounts.{IsOutside, MountsAs}
-use Rattle.store_opening.proofs.Opened.{then_carry, carry_same, then_trees, trees_same, stands_then}
+use Rattle.store_opening.proofs.Opened.{then_carry, carry_same, then_trees, stands_then, moments_of, untouched_moments}
 use Rattle.store_opening.proofs.Refused.{as_store, refuses, told_refuses, told_outside, explains_store}
 use Rattle.store_opening.proofs.mounting.mount.Goals as goal
 
@@ -87,3 +87,54 @@ returns-clause-done g c = λ tells told fsid set is.
     as_store (λ f s. (o : Objects) (n last : ℕ) → StandsNow (Image s) f old d o n last → MountsAs o n last c.in-Ok-open.store new e) id.fsid id.settings fsid set
     (c.one_law.ensures old.tree id.fsid fsid id.settings set (c.in-Ok.ensures.store (search rules)) is)
     (λ o n last s. c.in-Ok-open.ensures.done (search rules) (search rules) o n last (stands_then (Image id.settings) id.fsid old mid d o n last (c.identity.ensures.still (search rules)).stays s))
+
+-- ---- at each moment
+
+pub returns-in-Err-clause-moments : goal.returns-in-Err-clause-moments
+returns-in-Err-clause-moments g c = λ tells told settled fresh fsid set is o n last all.
+    let before = g.D.Device.state c.args.dev.now in
+    untouched_moments (Image set) fsid (g.T.FileTree.disk c.args.tree.now) (g.T.FileTree.disk c.identity.new.tree) (g.met.T.FileTree.sound c.args.tree.now (search rules))
+    (c.identity.ensures.still (search rules)).stays before (g.met.D.Device.reads_image c.args.dev.now (search rules))
+    (settled_sound before.disk settled (c.sound_law.ensures.stable before.disk)) settled fresh o n last all
+
+pub returns-in-Err-open-clause-moments : goal.returns-in-Err-open-clause-moments
+returns-in-Err-open-clause-moments g c = λ tells told settled fresh fsid set is o n last all.
+    let old = g.T.FileTree.disk c.args.tree.now in
+    let mid = g.T.FileTree.disk c.identity.new.tree in
+    let new = g.T.FileTree.disk c.open.new.tree in
+    let before = g.D.Device.state c.args.dev.now in
+    let now = g.D.Device.state c.open.new.dev in
+    let sound = g.met.T.FileTree.sound c.args.tree.now (search rules) in
+    let so = settled_sound before.disk settled (c.sound_law.ensures.stable before.disk) in
+    let img = g.met.D.Device.reads_image c.args.dev.now (search rules) in
+    let stays = (c.identity.ensures.still (search rules)).stays in
+    let id = c.in-Ok.identity in
+    as_store (λ f s. AllStand (Image s) f o n last old.may before.disk
+    → Keeps (λ t. KeepsSince (EachImage (λ b. StandsAt (Image s) f t b o n last)) before now) old new) id.fsid id.settings fsid set
+    (c.one_law.ensures old.tree id.fsid fsid id.settings set (c.in-Ok.ensures.store (search rules)) is)
+    (λ each. moments_of (Image id.settings) id.fsid old new sound.now before now img so settled fresh o n last each
+    (λ s. then_trees (Image id.settings) id.fsid before.disk.reads o n last old mid new sound stays
+    (c.open.ensures.trees (search rules) (search rules) o n last (stands_then (Image id.settings) id.fsid old mid before.disk o n last stays s)))
+    (λ s. c.open.ensures.journals (search rules) (search rules) so o n last (stands_then (Image id.settings) id.fsid old mid before.disk o n last stays s)))
+    all
+
+pub returns-clause-moments : goal.returns-clause-moments
+returns-clause-moments g c = λ tells told settled fresh fsid set is o n last all.
+    let old = g.T.FileTree.disk c.args.tree.now in
+    let mid = g.T.FileTree.disk c.identity.new.tree in
+    let new = g.T.FileTree.disk c.open.new.tree in
+    let before = g.D.Device.state c.args.dev.now in
+    let now = g.D.Device.state c.open.new.dev in
+    let sound = g.met.T.FileTree.sound c.args.tree.now (search rules) in
+    let so = settled_sound before.disk settled (c.sound_law.ensures.stable before.disk) in
+    let img = g.met.D.Device.reads_image c.args.dev.now (search rules) in
+    let stays = (c.identity.ensures.still (search rules)).stays in
+    let id = c.in-Ok.identity in
+    as_store (λ f s. AllStand (Image s) f o n last old.may before.disk
+    → Keeps (λ t. KeepsSince (EachImage (λ b. StandsAt (Image s) f t b o n last)) before now) old new) id.fsid id.settings fsid set
+    (c.one_law.ensures old.tree id.fsid fsid id.settings set (c.in-Ok.ensures.store (search rules)) is)
+    (λ each. moments_of (Image id.settings) id.fsid old new sound.now before now img so settled fresh o n last each
+    (λ s. then_trees (Image id.settings) id.fsid before.disk.reads o n last old mid new sound stays
+    (c.open.ensures.trees (search rules) (search rules) o n last (stands_then (Image id.settings) id.fsid old mid before.disk o n last stays s)))
+    (λ s. c.open.ensures.journals (search rules) (search rules) so o n last (stands_then (Image id.settings) id.fsid old mid before.disk o n last stays s)))
+    all

@@ -7,7 +7,7 @@ use Rattle.apply_ops.specs.Next.{IsReady}
 use Rattle.file_store.proofs.Answering.{damaged_back, tree_back, works_on, whole_now}
 use Rattle.file_store.proofs.Shown.{shown}
 use Rattle.file_store.proofs.Stilled.{is_ready_stays}
-use Rattle.file_store.proofs.reading.FileStore.attrs.Goals as goal
+use Rattle.file_store.proofs.store.FileStore.colls.Goals as goal
 
 pub returns-clause-reads : goal.returns-clause-reads
 returns-clause-reads g c = λ tells h r.
@@ -17,14 +17,14 @@ returns-clause-reads g c = λ tells h r.
 
 pub returns-clause-tree : goal.returns-clause-tree
 returns-clause-tree g c = λ tells works.
-    is_ready_stays (g.T.FileTree.disk c.args.tree.now) (g.T.FileTree.disk c.attrs.new.tree) (c.attrs.ensures.still (search rules)).stays c.args.self.now.set (c.requires.tree (search rules) works)
+    is_ready_stays (g.T.FileTree.disk c.args.tree.now) (g.T.FileTree.disk c.colls.new.tree) (c.colls.ensures.still (search rules)).stays c.args.self.now.set (c.requires.tree (search rules) works)
 
 pub returns-in-Err-clause-tree : goal.returns-in-Err-clause-tree
 returns-in-Err-clause-tree g c = λ tells works.
-    is_ready_stays (g.T.FileTree.disk c.args.tree.now) (g.T.FileTree.disk c.attrs.new.tree) (c.attrs.ensures.still (search rules)).stays c.args.self.now.set (c.requires.tree (search rules) works)
+    is_ready_stays (g.T.FileTree.disk c.args.tree.now) (g.T.FileTree.disk c.colls.new.tree) (c.colls.ensures.still (search rules)).stays c.args.self.now.set (c.requires.tree (search rules) works)
 
 pub returns-in-Err-clause-undamaged : goal.returns-in-Err-clause-undamaged
 returns-in-Err-clause-undamaged g c = λ tells works p is.
     let t = g.T.FileTree.disk c.args.tree.now in
     let ready = subst (λ (s : Settings). IsReady s t) (sym c.place.ensures) (c.requires.tree (search rules) works) in
-    c.attrs.ensures.undamaged (search rules) (whole_now c.place.result.1 t (g.met.T.FileTree.sound c.args.tree.now (search rules)) ready) ready.own.clear p (damaged_back c.in-Err.fault p is)
+    c.colls.ensures.undamaged (search rules) (whole_now c.place.result.1 t (g.met.T.FileTree.sound c.args.tree.now (search rules)) ready) ready.own.clear p (damaged_back c.in-Err.fault p is)
