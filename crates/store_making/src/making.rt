@@ -3,7 +3,9 @@ ghost use Rattle.std.specs.Prelude.{◌≡◌, ◌≤◌, ◌<◌, ℕ, All, Err
 ghost use Rattle.std.specs.FinMap as fin;
 ghost use Rattle.fault_count.specs.Counted.{Counted};
 ghost use Rattle.tree_api.specs.Disk.{Everywhere, Keeps, Leaves, Stays, Still};
+ghost use Rattle.dev_api.specs.Disk.{settled};
 ghost use Rattle.ring_images.specs.Headers.{IsSize};
+ghost use Rattle.ring_journal.specs.State.{made};
 ghost use Rattle.ring_images.specs.Held.{EachSound};
 ghost use Rattle.store_history.specs.Pair.{Closed};
 ghost use Rattle.tree_places.specs.Images.{Image};
@@ -57,6 +59,7 @@ fn settle<T: FileTree>(tree: &mut T) -> Result<(), MakeFault>
 fn make_ring<D: Device>(dev: &mut D, fsid: &[u8; 16]) -> Result<(), MakeFault>
     requires size { IsSize (D.state dev.old).size }
     ensures made { D.tells dev.new → OnOk result (IsMade fsid.now (D.state dev.old).size (D.state dev.new).disk) }
+    ensures ring { D.tells dev.new → OnOk result ((D.state dev.new).disk ≡ settled (made fsid.now (D.state dev.old).size)) }
     ensures refusal { IfErr result (λ fault. IsRefusal fault → ⊥) }
     ensures tree { result ≡ Err MakeFault.Tree → ⊥ }
     ensures honest { D.tells dev.new → D.tells dev.old }
@@ -118,6 +121,8 @@ pub fn make_store<T: FileTree, D: Device>(
     ensures each { T.tells tree.new → Everywhere (T.disk tree.old) IsBare → Keeps (Unfinished fsid.now set.now) (T.disk tree.old) (T.disk tree.new) }
     ensures order { T.tells tree.new → D.tells dev.new → Everywhere (T.disk tree.old) IsBare
         → Keeps (VersionLast fsid.now set.now (D.state dev.old).size (D.state dev.new).disk) (T.disk tree.old) (T.disk tree.new) }
+    ensures made { D.tells dev.new → OnOk result (IsMade fsid.now (D.state dev.old).size (D.state dev.new).disk) }
+    ensures ring { D.tells dev.new → OnOk result ((D.state dev.new).disk ≡ settled (made fsid.now (D.state dev.old).size)) }
     ensures stores { T.tells tree.new → IsUsable set.now → OnOk result (Everywhere (T.disk tree.new) (λ t. IsStore t fsid.now set.now)) }
     ensures closed { T.tells tree.new → D.tells dev.new → IsUsable set.now → OnOk result
         (Everywhere (T.disk tree.new) (λ t. EachSound (λ c. Closed (Image set.now) fsid.now t c fin.empty) (D.state dev.new).disk)) }

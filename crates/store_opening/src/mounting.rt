@@ -1,5 +1,5 @@
 // A mount of whatever store a tree is.
-ghost use Rattle.std.specs.Prelude.{◌≡◌, ◌≤◌, ℕ, IfOk, OnOk, IfErr, IsErrOf};
+ghost use Rattle.std.specs.Prelude.{◌≡◌, ◌≤◌, ◌-◌, ℕ, IfOk, OnOk, IfErr, IsErrOf};
 ghost use Rattle.fault_count.specs.Counted.{Counted};
 ghost use Rattle.fs_model.specs.Objects.{Objects};
 ghost use Rattle.tree_api.specs.Disk.{Keeps, Stays, Still};
@@ -61,6 +61,7 @@ pub fn mount<T: FileTree, D: Device>(
     ensures is_store { T.tells tree.new → IfOk result (λ s. IsStore (T.disk tree.old).tree s.ring.head.fsid s.set) }
     ensures fresh { IfOk result IsFresh }
     ensures size { IfOk result (λ s. s.ring.head.size ≡ (D.state dev.new).size) }
+    ensures room { IfOk result (λ s. s.queue.size ≡ (D.state dev.new).size - 8192) }
     ensures tree { IfOk result (λ s. IsItsTree s (T.tells tree.new) (T.disk tree.new)) }
     ensures device { IfOk result (λ s. IsItsDevice s (D.tells dev.new) (D.state dev.new)) }
     ensures refused { T.tells tree.new → D.tells dev.new → IfErr result (Refuses (T.disk tree.old).tree (D.state dev.old).disk.reads) }

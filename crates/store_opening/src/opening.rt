@@ -1,5 +1,5 @@
 // A mount of a tree whose identity and settings are known.
-ghost use Rattle.std.specs.Prelude.{◌≡◌, ◌≢◌, ◌≤◌, ℕ, [], List, Err, IfOk, OnOk, IfErr, IsErrOf};
+ghost use Rattle.std.specs.Prelude.{◌≡◌, ◌≢◌, ◌≤◌, ◌-◌, ℕ, [], List, Err, IfOk, OnOk, IfErr, IsErrOf};
 ghost use Rattle.std.specs.FinSet as set;
 ghost use Rattle.fault_count.specs.Counted.{Counted};
 ghost use Rattle.fs_model.specs.Objects.{Objects};
@@ -91,6 +91,7 @@ pub(crate) fn open<T: FileTree, D: Device>(
     ensures fsid { IfOk result (λ s. s.ring.head.fsid ≡ fsid.now) }
     ensures fresh { IfOk result IsFresh }
     ensures size { IfOk result (λ s. s.ring.head.size ≡ (D.state dev.new).size) }
+    ensures room { IfOk result (λ s. s.queue.size ≡ (D.state dev.new).size - 8192) }
     ensures tree { IfOk result (λ s. IsItsTree s (T.tells tree.new) (T.disk tree.new)) }
     ensures device { IfOk result (λ s. IsItsDevice s (D.tells dev.new) (D.state dev.new)) }
     ensures refused { T.tells tree.new → D.tells dev.new
