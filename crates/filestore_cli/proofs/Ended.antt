@@ -16,12 +16,15 @@ use Rattle.file_store.specs.declared.fault.First.{First}
 use Rattle.file_store.specs.declared.fault.TurnFault.{TurnFault}
 use Rattle.file_store.specs.declared.fault.TurnFault.TheVariants as turn
 use Rattle.script_store.specs.declared.store.ScriptStore.{ScriptStore}
+use Rattle.script_store.specs.declared.fault.StepFault.{StepFault}
+use Rattle.script_store.specs.declared.fault.StepFault.TheVariants as stepping
 use Rattle.script_store.specs.Script.{OpLists}
 use Rattle.filestore_cli.specs.declared.stop.Stop.{Stop}
-use Rattle.filestore_cli.specs.Seen.{Seen, SeenSides, Sides, Says}
+use Rattle.filestore_cli.specs.declared.stop.Stop.TheVariants.{Sink}
+use Rattle.filestore_cli.specs.Seen.{Seen, SeenSides, Sides, Says, TreeFails, DeviceFails}
 use Rattle.filestore_cli.specs.Opened.{ClosedOn, HasRun, held_by}
-use Rattle.filestore_cli.specs.Stop.{close_stop}
-use Rattle.filestore_cli.specs.Run.{Survives, IsClosed, Done, Stopped, Halted, IsFree, IsCausedBy}
+use Rattle.filestore_cli.specs.Stop.{close_stop, step_stop}
+use Rattle.filestore_cli.specs.Run.{Survives, IsClosed, Done, Stopped, Halted, IsFree, IsCausedBy, IsStepStop}
 
 module _ (s : Session) (script : List Line) (store : ScriptStore) (sink : Seen Outflow) (w v : Sides) (run : HasRun s script store w sink) where
   h : History
@@ -78,3 +81,43 @@ free (turn.Broken first) sound = tt
 
 pub close_free : (stop : Stop) (fault : TurnFault) → stop ≡ close_stop fault → ((p : Path) → fault ≡ turn.Damaged p → ⊥) → IsFree stop
 close_free stop fault e sound = subst IsFree (sym e) (free fault sound)
+
+caused : (w : SeenSides) (k : Seen Outflow) (fault : TurnFault) → (fault ≡ turn.Tree → TreeFails w) → (fault ≡ turn.Device → DeviceFails w) → IsCausedBy w k (close_stop fault)
+caused w k turn.Tree tree device = tree refl
+caused w k turn.Device tree device = device refl
+caused w k turn.Memory tree device = tt
+caused w k (turn.Damaged path) tree device = tt
+caused w k (turn.Broken first) tree device = tt
+
+pub close_caused : (w : SeenSides) (k : Seen Outflow) (stop : Stop) (fault : TurnFault) → stop ≡ close_stop fault → (fault ≡ turn.Tree → TreeFails w) → (fault ≡ turn.Device → DeviceFails w)
+    → IsCausedBy w k stop
+close_caused w k stop fault e tree device = subst (IsCausedBy w k) (sym e) (caused w k fault tree device)
+
+step_caused : (w : SeenSides) (k : Seen Outflow) (fault : StepFault) → (fault ≡ stepping.Tree → TreeFails w) → (fault ≡ stepping.Device → DeviceFails w) → IsCausedBy w k (step_stop fault)
+step_caused w k stepping.Tree tree device = tree refl
+step_caused w k stepping.Device tree device = device refl
+step_caused w k stepping.Memory tree device = tt
+step_caused w k (stepping.Damaged path) tree device = tt
+
+pub stepped_caused : (w : SeenSides) (k : Seen Outflow) (stop : Stop) (fault : StepFault) → stop ≡ step_stop fault → (fault ≡ stepping.Tree → TreeFails w) → (fault ≡ stepping.Device → DeviceFails w)
+    → IsCausedBy w k stop
+stepped_caused w k stop fault e tree device = subst (IsCausedBy w k) (sym e) (step_caused w k fault tree device)
+
+step_only : (fault : StepFault) → ((p : Path) → fault ≡ stepping.Damaged p → ⊥) → IsStepStop (step_stop fault)
+step_only stepping.Tree sound = tt
+step_only stepping.Device sound = tt
+step_only stepping.Memory sound = tt
+step_only (stepping.Damaged path) sound = absurd (sound path refl)
+
+pub stepped_only : (stop : Stop) (fault : StepFault) → stop ≡ step_stop fault → ((p : Path) → fault ≡ stepping.Damaged p → ⊥) → IsStepStop stop
+stepped_only stop fault e sound = subst IsStepStop (sym e) (step_only fault sound)
+
+-- nothing was written then
+step_silent : (fault : StepFault) → step_stop fault ≡ Sink → ⊥
+step_silent stepping.Tree e = absurd (cc)
+step_silent stepping.Device e = absurd (cc)
+step_silent stepping.Memory e = absurd (cc)
+step_silent (stepping.Damaged path) e = absurd (cc)
+
+pub stepped_silent : (stop : Stop) (fault : StepFault) → stop ≡ step_stop fault → stop ≡ Sink → ⊥
+stepped_silent stop fault e is = step_silent fault (sym e ∙ is)
