@@ -131,6 +131,13 @@ pub too_long : (before now : Inflow) → IsPast script_limit before now → scri
 unfolding script_said
 too_long before now past = chosen script_limit (length before.left) _ _ (omega (arith, past.past, past.within))
 
+-- what isn't a script is none
+pub not_said : {X E : Type 0} (r : Result X E) (x : X) (e : E) → r ≡ Ok x → r ≡ Err e → ⊥
+not_said r x e said is = absurd (no_ok (sym said ∙ is))
+  where
+    no_ok : Ok x ≡ Err e → ⊥
+    no_ok same = absurd (cc)
+
 -- ---- with the last line
 
 stopped_map : (s : Session) (script : List Line) (V W : List ℕ → Type 0) (w : Sides) → ((text : List ℕ) → V text → W text) → Stopped s script V w → Stopped s script W w
