@@ -9,18 +9,18 @@ use Rattle.filestore_cli.proofs.opening.start.Goals as goal
 
 pub returns-in-RunNew-clause-opens : goal.returns-in-RunNew-clause-opens
 returns-in-RunNew-clause-opens g c = λ told.
-    let w = turns (g.T.FileTree.tells c.make_store.new.tree × g.D.Device.tells c.make_store.new.dev) (sides (g.T.FileTree.disk c.args.tree.now) (g.D.Device.state c.args.dev.now)) (sides (g.T.FileTree.disk c.make_store.new.tree) (g.D.Device.state c.make_store.new.dev)) in
-    subst (λ (k : Command). IfOk c.make_store.result (λ (store : ScriptStore). Begun k w (Opens store w.new))) (sym c.in-RunNew.is) (c.make_store.ensures.opens told)
+    let w = turns (g.T.FileTree.tells c.make_new.new.tree × g.D.Device.tells c.make_new.new.dev) (sides (g.T.FileTree.disk c.args.tree.now) (g.D.Device.state c.args.dev.now)) (sides (g.T.FileTree.disk c.make_new.new.tree) (g.D.Device.state c.make_new.new.dev)) in
+    subst (λ (k : Command). IfOk c.make_new.result (λ (store : ScriptStore). Begun k w (Opens store w.new))) (sym c.in-RunNew.is) (c.make_new.ensures.opens told)
 
 pub returns-in-RunNew-clause-refused : goal.returns-in-RunNew-clause-refused
 returns-in-RunNew-clause-refused g c = λ told.
-    let w = turns (g.T.FileTree.tells c.make_store.new.tree × g.D.Device.tells c.make_store.new.dev) (sides (g.T.FileTree.disk c.args.tree.now) (g.D.Device.state c.args.dev.now)) (sides (g.T.FileTree.disk c.make_store.new.tree) (g.D.Device.state c.make_store.new.dev)) in
-    subst (λ (k : Command). IfErr c.make_store.result (Unstarted k w)) (sym c.in-RunNew.is) (c.make_store.ensures.refused told)
+    let w = turns (g.T.FileTree.tells c.make_new.new.tree × g.D.Device.tells c.make_new.new.dev) (sides (g.T.FileTree.disk c.args.tree.now) (g.D.Device.state c.args.dev.now)) (sides (g.T.FileTree.disk c.make_new.new.tree) (g.D.Device.state c.make_new.new.dev)) in
+    subst (λ (k : Command). IfErr c.make_new.result (Unstarted k w)) (sym c.in-RunNew.is) (c.make_new.ensures.refused told)
 
 pub returns-in-RunNew-clause-free : goal.returns-in-RunNew-clause-free
 returns-in-RunNew-clause-free g c = λ told can.
-    let w = turns (g.T.FileTree.tells c.make_store.new.tree × g.D.Device.tells c.make_store.new.dev) (sides (g.T.FileTree.disk c.args.tree.now) (g.D.Device.state c.args.dev.now)) (sides (g.T.FileTree.disk c.make_store.new.tree) (g.D.Device.state c.make_store.new.dev)) in
-    c.make_store.ensures.free told (subst (λ (k : Command). CanStart k w.old) c.in-RunNew.is can)
+    let w = turns (g.T.FileTree.tells c.make_new.new.tree × g.D.Device.tells c.make_new.new.dev) (sides (g.T.FileTree.disk c.args.tree.now) (g.D.Device.state c.args.dev.now)) (sides (g.T.FileTree.disk c.make_new.new.tree) (g.D.Device.state c.make_new.new.dev)) in
+    c.make_new.ensures.free told (subst (λ (k : Command). CanStart k w.old) c.in-RunNew.is can)
 
 pub returns-in-Run-clause-opens : goal.returns-in-Run-clause-opens
 returns-in-Run-clause-opens g c = λ told.
