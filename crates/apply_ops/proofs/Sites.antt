@@ -1,18 +1,20 @@
 -- Making a collection and taking one away leave the store's own directories and number.
-use Rattle.std.proofs.Common.{◌≡◌, ◌⊎◌, inl, inr, ⊎_elim, ℕ, List, [], ◌∷◌, codes, Bool, true, false, refl, sym, ◌∙◌, ap, Option, Some, None}
+use Rattle.std.proofs.Common.{◌≡◌, ◌⊎◌, inl, inr, ⊎_elim, ℕ, List, [], ◌∷◌, codes, Bool, false, refl, sym, ◌∙◌, ap, subst, Option, Some, None}
 use Rattle.fs_names.specs.declared.coll.Coll.{Coll}
 use Rattle.fs_names.specs.declared.settings.Pos.{Pos}
 use Rattle.fs_names.specs.Reading.{CollFits}
 use Rattle.fs_names.specs.Text.{coll_text}
-use Rattle.tree_api.specs.Tree.{Path, Version, Tree, IsDir, IsFree, current, look, held}
+use Rattle.tree_api.specs.Tree.{Path, Version, Tree, IsDir, IsFile, IsFree, current, look, held}
 use Rattle.tree_api.specs.Disk.{Disk, Sound}
 use Rattle.lfn_index.specs.Directory.{entry}
 use Rattle.lfn_index.specs.Changes.{aside, place_name}
 use Rattle.tree_stands.specs.Trees.{dir_of}
 use Rattle.commit_point.specs.Number.{number_path}
+use Rattle.op_effects.specs.Clear.{IsClear, KeepsClear}
 use Rattle.op_effects.specs.Ready.{trash}
 use Rattle.coll_ops.specs.Places.{trash_at, Within}
 use Rattle.coll_ops.specs.Changes.{Elsewhere}
+use Rattle.coll_ops.specs.Trash.{IsInTheWay}
 use Rattle.coll_ops.proofs.Paths.{IsOwn, own_trash, own_number, never_own, off_aside, off_place, aside_trash, place_trash}
 use Rattle.tree_places.specs.Own.{OwnStays}
 
@@ -40,9 +42,6 @@ module _ (e f : Tree) (q : Path) (same : look f q ≡ look e q) where
       let there = stands f q (e.node was.0) (f.at q) refl (same ∙ ap (λ (o : Option ℕ). held o e.node) was.1) in
       (there.0, there.1, ap (λ (v : Version). v.dir) there.2 ∙ was.2)
 
-  pub dir_stays : IsDir e q → IsDir f q
-  dir_stays was = same_kind true was
-
   pub free_stays : IsFree e q → IsFree f q
   free_stays (inl none) = inl (nothing f q (f.at q) refl (same ∙ ap (λ (o : Option ℕ). held o e.node) none))
   free_stays (inr file) = inr (same_kind false file)
@@ -61,25 +60,32 @@ module _ (c : Coll) (fits : CollFits c) where
   never_within : (text : List ℕ) → IsOwn text → Within (dir_of c) (under text []) → ⊥
   never_within text own is = never_own c fits text own (sym (second text (coll_text c) [] is.0 is.1))
 
-  pub made_elsewhere : (e f : Tree) → Elsewhere (Within (dir_of c)) e f → OwnStays e f
-  made_elsewhere e f goes = record {
+  pub made_elsewhere : (e f : Tree) → KeepsClear e f → Elsewhere (Within (dir_of c)) e f → OwnStays e f
+  made_elsewhere e f clear goes = record {
     building = goes aside (off_aside c fits);
     removed = goes trash (never_within (codes "trash") own_trash);
     number = goes number_path (never_within (codes "commit_op_seq") own_number);
     places = λ s. free_stays e f (entry aside s) (goes (entry aside s) (off_place c fits s));
+    clear = clear;
   }
 
-  pub dropped_elsewhere : (pos : Pos) (e f : Tree) → Elsewhere (λ q. Within (dir_of c) q ⊎ Within (trash_at pos) q) e f → OwnStays e f
-  dropped_elsewhere pos e f goes = record {
+  pub dropped_elsewhere : (pos : Pos) (e f : Tree) → KeepsClear e f → Elsewhere (λ q. Within (dir_of c) q ⊎ Within (trash_at pos) q) e f → OwnStays e f
+  dropped_elsewhere pos e f clear goes = record {
     building = goes aside (⊎_elim (off_aside c fits) (aside_trash pos));
     removed = goes trash (⊎_elim (never_within (codes "trash") own_trash) (λ is. shorter (codes "trash") (codes "trash") (place_name pos) is.0 is.1));
     number = goes number_path (⊎_elim (never_within (codes "commit_op_seq") own_number) (λ is. shorter (codes "commit_op_seq") (codes "trash") (place_name pos) is.0 is.1));
     places = λ s. free_stays e f (entry aside s) (goes (entry aside s) (⊎_elim (off_place c fits s) (place_trash pos s)));
+    clear = clear;
   }
-
-pub trash_stays : (e f : Tree) → OwnStays e f → IsDir e trash → IsDir f trash
-trash_stays e f own was = dir_stays e f trash own.removed was
 
 -- `current` is a directory where `aside` is one
 pub current_there : (d : Disk) → Sound d → IsDir d.tree aside → IsDir d.tree current
 current_there d sound dir = sound.parents d.tree current (codes "aside") dir.0 sound.now dir.1
+
+-- nothing is in the way
+module _ (t : Tree) (clear : IsClear t) (c : Coll) (fits : CollFits c) where
+  pub never_file : (p : Path) → (p ≡ dir_of c) × IsFile t p → ⊥
+  never_file p (same, file) = clear.free c fits (subst (IsFile t) same file)
+
+  pub never_blocked : (pos : Pos) (p : Path) → IsInTheWay (dir_of c) (trash_at pos) t p → ⊥
+  never_blocked pos p way = ⊎_elim (never_file p) (λ deep. clear.trees (place_name pos) p deep) way

@@ -3,11 +3,10 @@ use Rattle.std.specs.Prelude.{◌≡◌, Option, Some, None}
 use Rattle.fs_names.specs.Text.{oid_text}
 use Rattle.fs_model.specs.declared.op.Op.{Op}
 use Rattle.fs_model.specs.declared.op.Op.TheVariants.{Touch, Write, Zero, Truncate, Remove, SetAttrs, RmAttr, RmAttrs}
-use Rattle.fs_names.specs.declared.coll.Coll.{Coll}
 use Rattle.fs_names.specs.declared.settings.Settings.{Settings}
-use Rattle.tree_api.specs.Tree.{Path, Version, Tree, IsFile, zeros}
+use Rattle.tree_api.specs.Tree.{Version, Tree, zeros}
 use Rattle.tree_stands.specs.Names.{Name}
-use Rattle.tree_stands.specs.Trees.{dir_of, name_at, ForObject}
+use Rattle.tree_stands.specs.Trees.{name_at, ForObject}
 use Rattle.tree_stands.specs.Files.{touched_file, written_file, cut_file, attrs_file, attr_gone_file, attrs_gone_file, no_file}
 
 -- the object that an operation changes, where it changes one and no collection
@@ -37,7 +36,3 @@ file_after _ x = x
 -- the object's file is that, and all else that is shown stays
 abbrev pub IsEdited : Settings → Name → Op → Tree → Tree → Type 0
 IsEdited set n op t u = ForObject set n (λ x y. y ≡ file_after op x) t u
-
--- a file stands in a collection's place
-abbrev pub IsFileFor : Coll → Tree → Path → Type 0
-IsFileFor c t p = (p ≡ dir_of c) × IsFile t p

@@ -1,26 +1,18 @@
 -- The next operation of a transaction, and the next transaction.
-use Rattle.std.specs.Prelude.{◌≡◌, ◌⊎◌, ◌+◌, ◌-◌, ℕ, List, Contains, slice_get, Some, Result, OnOk}
-use Rattle.fs_names.specs.declared.coll.Coll.{Coll}
-use Rattle.fs_names.specs.declared.settings.Pos.{Pos}
+use Rattle.std.specs.Prelude.{◌≡◌, ◌+◌, ◌-◌, ℕ, List, slice_get, Some, Result, OnOk}
 use Rattle.fs_names.specs.declared.settings.Settings.{Settings}
 use Rattle.fs_model.specs.declared.op.Op.{Op}
-use Rattle.fs_model.specs.declared.op.Op.TheVariants.{RmColl}
-use Rattle.fs_model.specs.Named.{colls_named}
-use Rattle.tree_api.specs.Tree.{Path, Tree, IsDir, IsFile}
 use Rattle.tree_api.specs.Disk.{Disk, Everywhere, Keeps}
-use Rattle.tree_stands.specs.Trees.{dir_of}
-use Rattle.op_effects.specs.Ready.{Ready, trash}
-use Rattle.coll_ops.specs.Places.{trash_at}
-use Rattle.coll_ops.specs.Trash.{IsInTheWay}
+use Rattle.op_effects.specs.Ready.{Ready}
 use Rattle.store_history.specs.History.{History}
 use Rattle.store_turns.specs.declared.numbers.How.{How}
-use Rattle.tree_places.specs.Images.{Image, reads}
+use Rattle.tree_places.specs.Images.{IsOwn, Image, reads}
 use Rattle.tree_places.specs.Underway.{IsTurn, Underway}
 
--- any operation may be done
+-- any operation may be done, and what is the store's own stands
 pub record IsReady (set : Settings) (d : Disk) : Type 0 where
   pub ready : Ready set d
-  pub removed : IsDir d.tree trash
+  pub own : IsOwn d.tree
 
 -- a place in a history: that of the operation at i of the transaction seq, with which images go along from lo to hi
 pub record Spot : Type 0 where
@@ -46,11 +38,6 @@ SpotKept set s old new = Keeps (Image set s.h s.n s.lo s.hi) old new
 -- and the operation is done
 abbrev pub SpotDone : Settings → Spot → Disk → Disk → Type 0
 SpotDone set s old new = Underway set s.how s.h s.n s.lo s.hi s.seq (s.i + 1) old new
-
--- a file in place of a collection that the operation names, or a tree in the trash, where it puts a collection, that is too deep
-abbrev pub IsInTheWayOf : Op → Pos → Tree → Path → Type 0
-IsInTheWayOf op pos t p =
-    ((c : Coll) × Contains (colls_named op) c × (p ≡ dir_of c) × IsFile t p) ⊎ ((c : Coll) × (op ≡ RmColl c) × IsInTheWay (dir_of c) (trash_at pos) t p)
 
 -- the operations are the transaction seq, which no image has to be past, and the tree reads as after the one before
 abbrev pub WhereDue : Settings → ℕ → List Op → Disk → (How → History → ℕ → ℕ → ℕ → Type 0) → Type 0

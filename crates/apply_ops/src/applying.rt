@@ -1,10 +1,10 @@
 // Any operation that is built.
-ghost use Rattle.std.specs.Prelude.{◌≡◌, ◌≤◌, true, OnOk, IsErrOf};
+ghost use Rattle.std.specs.Prelude.{◌≡◌, ◌≢◌, ◌≤◌, true, Err, OnOk, IsErrOf};
 ghost use Rattle.fs_model.specs.Check.{IsWithinLimits};
 ghost use Rattle.fault_count.specs.Counted.{Counted};
 ghost use Rattle.tree_api.specs.Tree.{Path};
 ghost use Rattle.built_ops.specs.Built.{is_built};
-ghost use Rattle.apply_ops.specs.Next.{Spot, IsNext, IsReady, IsInTheWayOf, SpotKept, SpotDone};
+ghost use Rattle.apply_ops.specs.Next.{Spot, IsNext, IsReady, SpotKept, SpotDone};
 
 use crate::editing::edit;
 use coll_ops::{drop_coll, make_coll};
@@ -15,8 +15,6 @@ use std::alloc::Global;
 use tree_api::FileTree;
 
 /// Does an operation. One that names a collection which isn't there does nothing, but for the making of a collection.
-///
-/// Answers `Damaged` where a file stands in a collection's place, or a tree in the trash is too deep.
 pub fn apply<T: FileTree>(
     alloc: Global,
     tree: &mut T,
@@ -34,7 +32,7 @@ pub fn apply<T: FileTree>(
     ensures keeps { T.tells tree.new → (s : Spot) → IsNext set.now s op.now (T.disk tree.old) → SpotKept set.now s (T.disk tree.old) (T.disk tree.new) }
     ensures done { T.tells tree.new → (s : Spot) → IsNext set.now s op.now (T.disk tree.old) → OnOk result (SpotDone set.now s (T.disk tree.old) (T.disk tree.new)) }
     ensures ready { T.tells tree.new → OnOk result (IsReady set.now (T.disk tree.new)) }
-    ensures damaged { T.tells tree.new → (p : Path) → IsErrOf result (IndexFault.Damaged p) → IsInTheWayOf op.now pos (T.disk tree.old).tree p }
+    ensures undamaged { T.tells tree.new → (p : Path) → result ≢ Err (IndexFault.Damaged p) }
 {
     match op {
         Op::MkColl { c } => {

@@ -7,9 +7,10 @@ ghost use Rattle.tree_api.specs.Tree.{Path, IsDir};
 ghost use Rattle.tree_stands.specs.Names.{Name, NameFits};
 ghost use Rattle.tree_stands.specs.Standing.{ObjectCrash};
 ghost use Rattle.tree_stands.specs.Trees.{dir_of};
-ghost use Rattle.op_effects.specs.Ready.{Ready, OffStays, KeepsPlaces, trash as trash_path};
-ghost use Rattle.apply_ops.specs.Editing.{edited, file_after, IsEdited, IsFileFor};
-ghost use Rattle.apply_ops.specs.Next.{Spot, IsNext, SpotKept, SpotDone};
+ghost use Rattle.op_effects.specs.Clear.{KeepsFree};
+ghost use Rattle.op_effects.specs.Ready.{Ready, OffStays};
+ghost use Rattle.apply_ops.specs.Editing.{edited, file_after, IsEdited};
+ghost use Rattle.apply_ops.specs.Next.{Spot, IsNext, IsReady, SpotKept, SpotDone};
 
 use crate::looking::is_there;
 use fs_model::Op;
@@ -53,7 +54,7 @@ fn edit_object<T: FileTree>(
     ensures counts { Counts (IsErrOf result IndexFault.Tree) 4 0 (T.disk tree.old) (T.disk tree.new) }
     ensures crash { T.tells tree.new → (n : Name) → edited op.now ≡ Some n → ObjectCrash set.now n (file_after op.now) (T.disk tree.old) (T.disk tree.new) }
     ensures off { T.tells tree.new → (n : Name) → edited op.now ≡ Some n → Leaves (OffStays (dir_of n.coll)) (T.disk tree.old) (T.disk tree.new) }
-    ensures places { T.tells tree.new → Leaves KeepsPlaces (T.disk tree.old) (T.disk tree.new) }
+    ensures free { T.tells tree.new → Leaves KeepsFree (T.disk tree.old) (T.disk tree.new) }
     ensures done { T.tells tree.new → (n : Name) → edited op.now ≡ Some n → OnOk result (IsEdited set.now n op.now (T.disk tree.old).tree (T.disk tree.new).tree) }
     ensures ready { T.tells tree.new → OnOk result (Ready set.now (T.disk tree.new)) }
     ensures undamaged { T.tells tree.new → (p : Path) → result ≢ Err (IndexFault.Damaged p) }
@@ -78,8 +79,6 @@ fn edit_object<T: FileTree>(
 }
 
 /// Does an operation on one object. Nothing is done where the object's collection isn't there.
-///
-/// Answers `Damaged` where a file stands in the collection's place.
 pub fn edit<T: FileTree>(
     alloc: Global,
     tree: &mut T,
@@ -87,16 +86,15 @@ pub fn edit<T: FileTree>(
     pos: Pos,
     op: &Op,
 ) -> Result<(), IndexFault>
-    requires ready { T.tells tree.old → Ready set.now (T.disk tree.old) }
+    requires ready { T.tells tree.old → IsReady set.now (T.disk tree.old) }
     requires fit { IsWithinLimits op.now }
     requires edits { (n : Name) × (edited op.now ≡ Some n) }
     ensures told { T.tells tree.new → T.tells tree.old }
     ensures counts { Counts (IsErrOf result IndexFault.Tree) 5 0 (T.disk tree.old) (T.disk tree.new) }
     ensures keeps { T.tells tree.new → (s : Spot) → IsNext set.now s op.now (T.disk tree.old) → SpotKept set.now s (T.disk tree.old) (T.disk tree.new) }
     ensures done { T.tells tree.new → (s : Spot) → IsNext set.now s op.now (T.disk tree.old) → OnOk result (SpotDone set.now s (T.disk tree.old) (T.disk tree.new)) }
-    ensures ready { T.tells tree.new → OnOk result (Ready set.now (T.disk tree.new)) }
-    ensures trash { T.tells tree.new → IsDir (T.disk tree.old).tree trash_path → IsDir (T.disk tree.new).tree trash_path }
-    ensures damaged { T.tells tree.new → (n : Name) (p : Path) → edited op.now ≡ Some n → IsErrOf result (IndexFault.Damaged p) → IsFileFor n.coll (T.disk tree.old).tree p }
+    ensures ready { T.tells tree.new → OnOk result (IsReady set.now (T.disk tree.new)) }
+    ensures undamaged { T.tells tree.new → (p : Path) → result ≢ Err (IndexFault.Damaged p) }
 {
     name_fits(op);
     let (coll, _) = op.colls();

@@ -1,7 +1,8 @@
 // A whole transaction.
-ghost use Rattle.std.specs.Prelude.{◌≡◌, ◌≤◌, ◌^◌, length, OnOk, IsErrOf};
+ghost use Rattle.std.specs.Prelude.{◌≡◌, ◌≢◌, ◌≤◌, ◌^◌, length, Err, OnOk, IsErrOf};
 ghost use Rattle.fault_count.specs.Counted.{Counted};
 ghost use Rattle.built_ops.specs.Built.{AllFit};
+ghost use Rattle.tree_api.specs.Tree.{Path};
 ghost use Rattle.apply_ops.specs.Next.{IsReady, TxnKept, TxnDone};
 
 use crate::applying::apply;
@@ -12,8 +13,6 @@ use std::alloc::Global;
 use tree_api::FileTree;
 
 /// Does the operations of the transaction `seq`, in order, live or on replay.
-///
-/// Answers as `apply` does.
 pub fn apply_all<T: FileTree>(
     alloc: Global,
     tree: &mut T,
@@ -31,6 +30,7 @@ pub fn apply_all<T: FileTree>(
     ensures keeps { T.tells tree.new → TxnKept set.now seq ops.now (T.disk tree.old) (T.disk tree.new) }
     ensures done { T.tells tree.new → TxnDone set.now seq ops.now result (T.disk tree.old) (T.disk tree.new) }
     ensures ready { T.tells tree.new → OnOk result (IsReady set.now (T.disk tree.new)) }
+    ensures undamaged { T.tells tree.new → (p : Path) → result ≢ Err (IndexFault.Damaged p) }
 {
     for (i, op) in ops.iter().enumerate() {
         let pos = Pos {

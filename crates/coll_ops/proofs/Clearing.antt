@@ -213,6 +213,7 @@ module _ (from to : Path) (apart : (q : Path) → Within from q → Within to q 
   swept_thrown f g less = record {
     off = λ q not_from not_to. ⊎_elim (λ same. same) (λ none. absurd (not_to none.1)) (less q);
     here = inl (λ q within. ⊎_elim (λ same. same) (λ none. absurd (apart q within none.1)) (less q));
+    place = λ rest. ⊎_elim (λ same. inr (inl same)) (λ none. inl none.0) (less (to ++ rest));
   }
 
   pub stays_throws : (d0 d1 : Disk) → Sound d0 → Stays d0 d1 → Throws from to d0 d1
@@ -244,6 +245,7 @@ module _ (from to : Path) (apart : (q : Path) → Within from q → Within to q 
       went = record {
         off = λ q not_from not_to. change.is.others q (λ rest same. not_from (rest, same)) (λ rest same. not_to (rest, same)) ∙ stays_off q not_to;
         here = inr (λ q within. ap change.at within.1 ∙ change.is.gone within.0);
+        place = λ rest. inr (inr (change.is.moved rest ∙ stays_off (from ++ rest) (λ is. apart (from ++ rest) (rest, refl) is)));
       }
 
       pub renamed_throws : Throws from to d0 d2

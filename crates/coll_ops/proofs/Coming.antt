@@ -47,7 +47,7 @@ module _ (coll : Coll) (fits : CollFits coll) (old new : Disk) (s0 : Sound old) 
   Own m = m ≡ n
 
   module _ (a c : Tree) (may : old.may a) (at : a.at ≡ old.tree.at) (others : (m : ℕ) → (Own m → ⊥) → c.node m ≡ a.node m) (such : Such c) where
-    such_keeps : (q : Path) → q ≢ p → KeepsAt a c q
+    pub such_keeps : (q : Path) → q ≢ p → KeepsAt a c q
     such_keeps q not = record {
       at = such.others q not ∙ sym (ap (λ (f : Names). f q) at);
       node = λ k here. others k (λ same. made.fresh a may q (here ∙ ap Some same));

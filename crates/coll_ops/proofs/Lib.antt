@@ -6,5 +6,6 @@ pub mod Going
 pub mod Kept
 pub mod Lasting
 pub mod Paths
+pub mod StaysClear
 pub mod Trash
 pub mod Trees

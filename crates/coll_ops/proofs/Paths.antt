@@ -1,29 +1,17 @@
 -- Where collections and the trash stand.
-use Rattle.std.proofs.Common.{◌≡◌, ◌≢◌, ◌⊎◌, inl, inr, ⊎_elim, ℕ, ◌<◌, ◌≤◌, Bool, false, true, not, ◌&&◌, ◌==◌, List, [], ◌∷◌, ◌++◌, length, get_or, codes, All, refl, sym, ◌∙◌, ap, subst, arith, Option, Some, None, append_assoc}
+use Rattle.std.proofs.Common.{◌≡◌, ◌≢◌, ◌⊎◌, inl, inr, ⊎_elim, ℕ, true, List, [], ◌∷◌, ◌++◌, get_or, codes, refl, sym, ◌∙◌, ap, subst, arith, Option, Some, None, append_assoc}
 use Rattle.std.proofs.lemmas.Bool.{cases_Bool}
-use Rattle.std.proofs.lemmas.Bool.Decides.{nat_tests}
-use Rattle.std.proofs.lemmas.List.{length-append, append-nil}
-use Rattle.std.proofs.lemmas.List.Elements.{All-weaker, All-append, All-cons}
-use Rattle.std.proofs.lemmas.List.Sums.{AllPass-from_list_all}
-use Rattle.std.specs.Fmt.{digits}
-use Rattle.std.specs.List.{list_all}
-use Rattle.std.specs.Char.{is_ascii_graphic}
+use Rattle.std.proofs.lemmas.List.{append-nil}
 use Rattle.std.specs.Ordering.{eq_by_cmp}
 use Rattle.fs_names.specs.declared.coll.Coll.{Coll}
-use Rattle.fs_names.specs.declared.coll.Coll.TheVariants.{Meta, Pg}
 use Rattle.fs_names.specs.declared.settings.Pos.{Pos}
-use Rattle.fs_names.specs.Numbers.{is_lower_digit}
 use Rattle.fs_names.specs.Order.{coll_cmp}
 use Rattle.fs_names.specs.Reading.{CollFits, coll_of, pg_of, pg_from}
 use Rattle.fs_names.specs.Text.{coll_text}
 use Rattle.fs_names.proofs.CollLaw.{coll_texts_are_read}
-use Rattle.fs_names.proofs.Colls.{head_text, temp_text}
-use Rattle.fs_names.proofs.Digits.{digits-lower}
-use Rattle.tree_api.specs.Step.{IsStep, IsStepByte}
 use Rattle.tree_api.specs.Tree.{Path, IsAbove}
 use Rattle.lfn_index.specs.Directory.{entry}
 use Rattle.lfn_index.specs.Changes.{aside, place_name}
-use Rattle.lfn_index.proofs.Places.{is_step_from}
 use Rattle.fs_cells.proofs.Looks.{is_coll}
 use Rattle.tree_stands.specs.Trees.{dir_of}
 use Rattle.tree_stands.proofs.Names.{coll_itself, true_not_false}
@@ -81,6 +69,9 @@ module _ (c : Coll) (fits : CollFits c) where
   pub other_entry : (d : Coll) → CollFits d → d ≢ c → (s : List ℕ) → Within (dir_of c) (entry (dir_of d) s) → ⊥
   other_entry d of_d differ s is = differ (one_coll d c of_d fits (second (coll_text d) (coll_text c) (s ∷ []) is.0 is.1))
 
+  pub other_within : (d : Coll) → CollFits d → d ≢ c → (q : Path) → Within (dir_of c) q → Within (dir_of d) q → ⊥
+  other_within d of_d differ q one two = differ (one_coll d c of_d fits (second (coll_text d) (coll_text c) two.0 one.0 (sym two.1 ∙ one.1)))
+
   off_own : (text : List ℕ) (p : Path) → IsOwn text → Within (dir_of c) (under text p) → ⊥
   off_own text p own is = never_own c fits text own (sym (second text (coll_text c) p is.0 is.1))
 
@@ -93,6 +84,9 @@ module _ (c : Coll) (fits : CollFits c) where
   pub off_trash : (s : List ℕ) → Within (dir_of c) (entry trash s) → ⊥
   off_trash s is = off_own (codes "trash") (s ∷ []) own_trash is
 
+  pub off_tree : (s : List ℕ) (q : Path) → Within (dir_of c) q → Within (entry trash s) q → ⊥
+  off_tree s q one two = never_own c fits (codes "trash") own_trash (second (coll_text c) (codes "trash") one.0 (s ∷ two.0) (sym one.1 ∙ two.1))
+
   module _ (pos : Pos) where
     pub never_trash : Within (trash_at pos) (dir_of c) → ⊥
     never_trash is = shorter (coll_text c) (codes "trash") (place_name pos) is.0 is.1
@@ -101,7 +95,7 @@ module _ (c : Coll) (fits : CollFits c) where
     never_trash_entry s is = never_own c fits (codes "trash") own_trash (second (coll_text c) (codes "trash") (s ∷ []) (place_name pos ∷ is.0) is.1)
 
     pub apart : (q : Path) → Within (dir_of c) q → Within (trash_at pos) q → ⊥
-    apart q one two = never_own c fits (codes "trash") own_trash (second (coll_text c) (codes "trash") one.0 (place_name pos ∷ two.0) (sym one.1 ∙ two.1))
+    apart q one two = off_tree (place_name pos) q one two
 
 apart_names : codes "aside" ≢ codes "trash"
 apart_names same = let e : 97 ≡ 116 = ap (λ (l : List ℕ). get_or l 0 0) same in absurd (omega (arith, e))
@@ -131,6 +125,9 @@ third x y p q same = cc
 -- trees in the trash are apart
 pub trash_entry_off : (s x : List ℕ) → x ≢ s → Within (entry trash s) (entry trash x) → ⊥
 trash_entry_off s x differ is = differ (third x s [] is.0 is.1)
+
+pub trees_apart : (s x : List ℕ) → x ≢ s → (q : Path) → Within (entry trash s) q → Within (entry trash x) q → ⊥
+trees_apart s x differ q one two = differ (third x s two.0 one.0 (sym two.1 ∙ one.1))
 
 -- a path within one below a second is within the second
 pub within_below : (p x q : Path) → Within (p ++ x) q → Within p q

@@ -1,5 +1,5 @@
 -- What the calls leave.
-use Rattle.std.specs.Prelude.{◌≡◌, ◌≢◌, ◌⊎◌, ◌≤◌, ℕ, Some, None}
+use Rattle.std.specs.Prelude.{◌≡◌, ◌≢◌, ◌⊎◌, ◌≤◌, ◌++◌, ℕ, Some, None}
 use Rattle.fault_count.specs.Counted.{Counted}
 use Rattle.fs_names.specs.declared.coll.Coll.{Coll}
 use Rattle.fs_names.specs.declared.settings.Settings.{Settings}
@@ -45,10 +45,12 @@ Swept p old new = (q : Path) → (new q ≡ old q) ⊎ ((new q ≡ None) × With
 abbrev pub Sweeps : Path → Disk → Disk → Type 0
 Sweeps p old new = Leaves (Renamed (λ c. Swept p old.tree.at c.at) NoNode) old new
 
--- All names at `from` and below it stay, or all are gone. So do all others but those at `to` and below it.
+-- All names at `from` and below it stay, or all are gone. So do all others but those at `to` and below it, each of which is
+-- gone, as it was, or that of the same place below `from`.
 pub record Thrown (from to : Path) (old new : Names) : Type 0 where
   pub off : (q : Path) → (Within from q → ⊥) → (Within to q → ⊥) → new q ≡ old q
   pub here : ((q : Path) → Within from q → new q ≡ old q) ⊎ ((q : Path) → Within from q → new q ≡ None)
+  pub place : (rest : Path) → (new (to ++ rest) ≡ None) ⊎ ((new (to ++ rest) ≡ old (to ++ rest)) ⊎ (new (to ++ rest) ≡ old (from ++ rest)))
 
 abbrev pub Throws : Path → Path → Disk → Disk → Type 0
 Throws from to old new = Leaves (Renamed (λ c. Thrown from to old.tree.at c.at) NoNode) old new

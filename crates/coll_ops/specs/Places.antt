@@ -1,7 +1,7 @@
 -- Where collections that were taken away go, and what stands at a path.
-use Rattle.std.specs.Prelude.{◌≡◌, codes, [], ◌∷◌, ◌++◌, Option, Some, None}
+use Rattle.std.specs.Prelude.{◌≡◌, ◌++◌, Option, Some, None}
 use Rattle.fs_names.specs.declared.settings.Pos.{Pos}
-use Rattle.tree_api.specs.Tree.{Path, Tree, IsFile, IsDir, current}
+use Rattle.tree_api.specs.Tree.{Path, Tree, IsFile, IsDir}
 use Rattle.tree_api.specs.declared.tree.Kind.{Kind}
 use Rattle.tree_api.specs.declared.tree.Kind.TheVariants.{File, Dir}
 use Rattle.op_effects.specs.Ready.{trash}

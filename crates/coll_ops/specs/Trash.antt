@@ -1,7 +1,7 @@
 -- Trees in the trash, and how many there are.
-use Rattle.std.specs.Prelude.{◌≡◌, ◌≢◌, ◌⊎◌, ◌↔◌, ◌<◌, ◌+◌, ◌-◌, ℕ, Bool, true, false, List, [], ◌∷◌, ◌++◌, length, Contains, Option, Some, None}
+use Rattle.std.specs.Prelude.{◌≡◌, ◌≢◌, ◌⊎◌, ◌↔◌, ◌<◌, ◌+◌, ◌-◌, ℕ, Bool, true, false, List, [], ◌∷◌, length, Contains, Option, Some, None}
 use Rattle.tree_api.specs.Answer.{Before}
-use Rattle.tree_api.specs.Tree.{Path, Tree, IsFile, IsDir}
+use Rattle.tree_api.specs.Tree.{Path, Tree, IsFile}
 use Rattle.lfn_index.specs.Directory.{entry}
 use Rattle.op_effects.specs.Ready.{trash}
 use Rattle.op_effects.specs.Clear.{DirBelow}

@@ -4,12 +4,12 @@ ghost use Rattle.fs_names.specs.declared.settings.Settings.{Settings};
 ghost use Rattle.tree_api.specs.Tree.{Path, IsDir, HasParent};
 ghost use Rattle.tree_api.specs.Disk.{Leaves};
 ghost use Rattle.tree_stands.specs.Trees.{dir_of, dir_guard};
+ghost use Rattle.op_effects.specs.Clear.{DirBelow, KeepsClear};
 ghost use Rattle.op_effects.specs.Ready.{Ready, trash};
 ghost use Rattle.op_effects.specs.Collections.{Drops};
 ghost use Rattle.coll_ops.specs.Places.{trash_at, Within};
 ghost use Rattle.coll_ops.specs.Changes.{Throws, Elsewhere, Faults, IsThrown};
 ghost use Rattle.coll_ops.specs.Trash.{HasTrees, TreesAfter, PlaceAfter, IsInTheWay};
-ghost use Rattle.op_effects.specs.Clear.{DirBelow};
 
 use crate::looking::kind_at;
 use crate::places::trash_path;
@@ -74,6 +74,7 @@ pub fn drop_coll<T: FileTree>(
     ensures counts { Faults (IsErrOf result IndexFault.Tree) (T.disk tree.old) (T.disk tree.new) }
     ensures leaves { T.tells tree.new → (set : Settings) → Leaves (Drops set coll.now) (T.disk tree.old) (T.disk tree.new) }
     ensures off { T.tells tree.new → Leaves (Elsewhere (λ q. Within (dir_of coll.now) q ⊎ Within (trash_at pos) q)) (T.disk tree.old) (T.disk tree.new) }
+    ensures clear { T.tells tree.new → Leaves KeepsClear (T.disk tree.old) (T.disk tree.new) }
     ensures done { T.tells tree.new → OnOk result (dir_guard (T.disk tree.new).tree coll.now ≡ None) }
     ensures ready { T.tells tree.new → OnOk result ((set : Settings) → Ready set (T.disk tree.old) → Ready set (T.disk tree.new)) }
     ensures grew { T.tells tree.new → IfOk result (λ grew. IsTrue grew ↔ IsThrown (dir_of coll.now) (trash_at pos) (T.disk tree.old).tree) }

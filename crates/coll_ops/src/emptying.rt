@@ -4,6 +4,7 @@ ghost use Rattle.fs_names.specs.declared.settings.Settings.{Settings};
 ghost use Rattle.tree_api.specs.Tree.{Path, IsDir};
 ghost use Rattle.tree_api.specs.Counts.{Counts};
 ghost use Rattle.tree_api.specs.Disk.{Still, Leaves};
+ghost use Rattle.op_effects.specs.Clear.{KeepsClear};
 ghost use Rattle.op_effects.specs.Ready.{Ready, trash};
 ghost use Rattle.coll_ops.specs.Places.{Within};
 ghost use Rattle.coll_ops.specs.Changes.{Elsewhere, AllStay, Sweeps, Faults};
@@ -80,6 +81,7 @@ pub fn sweep_first<T: FileTree>(alloc: Global, tree: &mut T) -> Result<bool, Ind
     ensures counts { Faults (IsErrOf result IndexFault.Tree) (T.disk tree.old) (T.disk tree.new) }
     ensures leaves { T.tells tree.new → (set : Settings) → Leaves (AllStay set) (T.disk tree.old) (T.disk tree.new) }
     ensures off { T.tells tree.new → Leaves (Elsewhere (Within trash)) (T.disk tree.old) (T.disk tree.new) }
+    ensures clear { T.tells tree.new → Leaves KeepsClear (T.disk tree.old) (T.disk tree.new) }
     ensures ready { T.tells tree.new → (set : Settings) → Ready set (T.disk tree.old) → Ready set (T.disk tree.new) }
     ensures swept { T.tells tree.new → IfOk result (FirstGoes trash (T.disk tree.old).tree (T.disk tree.new).tree) }
     ensures trees { T.tells tree.new → (n : ℕ) → HasTrees (T.disk tree.old).tree n → IfOk result (TreesLeft n (T.disk tree.new).tree) }

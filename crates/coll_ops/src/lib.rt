@@ -4,7 +4,7 @@
 //! `current/trash`, where its name is the position of the operation, and is swept from there later.
 //!
 //! What each call does to what a tree shows is said of each image that a crash may leave, in the words of `op_effects`:
-//! a collection is there or isn't, empty when it comes, and all others stay.
+//! a collection is there or isn't, empty when it comes, and all others stay. None brings anything in the way of an operation.
 #![tactic(auto)]
 
 mod dropping;

@@ -5,6 +5,7 @@ ghost use Rattle.tree_api.specs.Tree.{Path, IsFile, IsDir, HasParent, current};
 ghost use Rattle.tree_api.specs.Counts.{Counts};
 ghost use Rattle.tree_api.specs.Disk.{Everywhere, Leaves};
 ghost use Rattle.tree_stands.specs.Trees.{dir_of};
+ghost use Rattle.op_effects.specs.Clear.{KeepsClear};
 ghost use Rattle.op_effects.specs.Ready.{Ready};
 ghost use Rattle.op_effects.specs.Collections.{Makes};
 ghost use Rattle.coll_ops.specs.Places.{Within};
@@ -62,6 +63,7 @@ pub fn make_coll<T: FileTree>(alloc: Global, tree: &mut T, coll: &Coll) -> Resul
     ensures counts { Counts (IsErrOf result IndexFault.Tree) 1 0 (T.disk tree.old) (T.disk tree.new) }
     ensures leaves { T.tells tree.new → (set : Settings) → Leaves (Makes set coll.now) (T.disk tree.old) (T.disk tree.new) }
     ensures off { T.tells tree.new → Leaves (Elsewhere (Within (dir_of coll.now))) (T.disk tree.old) (T.disk tree.new) }
+    ensures clear { T.tells tree.new → Leaves KeepsClear (T.disk tree.old) (T.disk tree.new) }
     ensures done { T.tells tree.new → OnOk result (Everywhere (T.disk tree.new) (λ e. IsDir e (dir_of coll.now))) }
     ensures ready { T.tells tree.new → OnOk result ((set : Settings) → Ready set (T.disk tree.old) → Ready set (T.disk tree.new)) }
     ensures damaged { T.tells tree.new → (p : Path) → IsErrOf result (IndexFault.Damaged p) → (p ≡ dir_of coll.now) × IsFile (T.disk tree.old).tree p }

@@ -1,0 +1,5 @@
+mod Fit
+mod Turns
+mod Written
+mod Tidied
+mod Looked

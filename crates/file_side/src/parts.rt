@@ -1,9 +1,10 @@
 // The tree's side of a store of files.
 ghost use Rattle.std.specs.Prelude.{◌≡◌, ◌≢◌, ◌⊎◌, ◌↔◌, ℕ, ◌-◌, ◌<◌, ◌≤◌, ◌^◌, List, Err, IfOk, OnOk, IfSome, IfNone, IsTrue, IsOk, IsErr, IsErrOf};
-ghost use Rattle.fs_names.specs.declared.settings.Settings.{Settings};
 ghost use Rattle.built_ops.specs.Built.{CanDo};
 ghost use Rattle.commit_point.specs.Number.{HasNumber};
-ghost use Rattle.tree_places.specs.Images.{Image, IsLaid, reads};
+ghost use Rattle.tree_places.specs.Images.{Image, IsLaid, reads as tree_reads};
+ghost use Rattle.tree_places.proofs.Ready.{ready as ready_alone};
+ghost use Rattle.tree_places.proofs.Theory.{theory_law};
 ghost use Rattle.apply_ops.specs.Next.{IsReady};
 
 use apply_ops::apply_all;
@@ -18,22 +19,24 @@ use tree_api::{Failed, FileTree};
 /// What a store has beside its tree and its journal.
 #[derive(Clone, Copy, Debug, PartialEq, Eq)]
 pub struct Parts {
+    /// Which store it is.
+    pub fsid: [u8; 16],
     /// The settings, which never change.
     pub set: Settings,
 }
 
 impl<T: FileTree> Side<T> for Parts {
-    ghost set = { λ parts. parts.set };
+    ghost set = { λ parts. record { fsid = parts.fsid; settings = parts.set } };
 
-    ghost image = { Image };
+    ghost image = { λ id. Image id.settings };
 
-    ghost reads = { reads };
+    ghost reads = { λ id. tree_reads id.settings };
 
     ghost number = { HasNumber };
 
-    ghost laid = { IsLaid };
+    ghost laid = { λ id. IsLaid id.settings };
 
-    ghost ready = { IsReady };
+    ghost ready = { λ id. IsReady id.settings };
 
     ghost fits = { CanDo };
 
@@ -71,4 +74,8 @@ impl<T: FileTree> Side<T> for Parts {
     fn tidy(&self, alloc: Global, tree: &mut T) -> Result<(), IndexFault> {
         store_walk::tidy(alloc, tree)
     }
+
+    ghost ready_is = { λ id t tells laid only. record { ready = ready_alone id.settings (T.disk t) (T.sound t tells) only laid; own = laid.own } };
+
+    ghost theory = { λ id. theory_law id.settings };
 }

@@ -39,6 +39,14 @@ of_queue unqueued.QueueFull = queue.QueueFull
 of_queue unqueued.NumbersSpent = queue.NumbersSpent
 of_queue unqueued.Memory = queue.Memory
 
+-- the fault of a drain that was begun
+abbrev pub IsTurned : TurnFault → Type 0
+IsTurned (turn.Broken f) = ⊥
+IsTurned turn.Tree = Unit {0}
+IsTurned turn.Device = Unit {0}
+IsTurned (turn.Damaged path) = Unit {0}
+IsTurned turn.Memory = Unit {0}
+
 -- which fault a drain that gave up leaves in the store
 abbrev pub first_of : TurnFault → First
 first_of (turn.Broken f) = f

@@ -1,4 +1,3 @@
 pub mod Store
 pub mod Holds
 pub mod Faults
-pub mod Mounts

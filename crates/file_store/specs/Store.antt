@@ -1,15 +1,14 @@
 -- A store, as contracts see it.
-use Rattle.std.specs.Prelude.{◌≡◌, ℕ, ◌+◌, ◌-◌, List, [], ◌∷◌, ◌++◌, map, length, Option, None}
+use Rattle.std.specs.Prelude.{◌≡◌, ℕ, ◌+◌, ◌-◌, List, [], map, length, Option, None}
 use Rattle.fs_names.specs.declared.settings.Settings.{Settings}
 use Rattle.fs_model.specs.declared.op.Op.{Op}
 use Rattle.fs_model.specs.declared.op.Txn.{Txn}
-use Rattle.fs_model.specs.Check.{colls_after}
 use Rattle.tree_api.specs.Disk.{Disk as Files}
 use Rattle.dev_api.specs.DeviceState.{DeviceState}
 use Rattle.ring_journal.specs.State.{State, Holds as RingHolds}
 use Rattle.store_turns.specs.declared.numbers.Numbers.{Numbers}
 use Rattle.store_turns.specs.State.{Fits}
-use Rattle.store_queue.specs.Waiting.{Waiting}
+use Rattle.store_queue.specs.Waiting.{Waiting, with_txn as queue_with}
 use Rattle.apply_ops.specs.Next.{IsReady}
 use Rattle.file_store.specs.declared.fault.First.{First}
 
@@ -27,11 +26,19 @@ pub record Store : Type 0 where
 abbrev pub Works : Store → Type 0
 Works s = s.first ≡ None
 
+-- one in which no fault was met
+abbrev pub working : Settings → Numbers → State → Waiting → Store
+working set numbers ring queue = record { set = set; numbers = numbers; ring = ring; queue = queue; first = None }
+
 -- The numbers fit the ring and the queue.
 pub record IsCounted (s : Store) : Type 0 where
   pub fits : Fits s.numbers s.ring
   pub last : s.queue.last ≡ s.numbers.journalled + length s.queue.txns
   pub size : s.queue.size ≡ s.ring.head.size - 8192
+
+-- they do, unless a fault was met
+abbrev pub IsSound : Store → Type 0
+IsSound s = Works s → IsCounted s
 
 -- it is the tree that the store was mounted on, changed since by this store alone
 abbrev pub IsItsTree : Store → Type 0 → Files → Type 0
@@ -48,8 +55,7 @@ waiting_in s = map (λ txn. txn.ops) s.queue.txns
 
 -- with one transaction more, which has this number
 abbrev pub with_txn : Store → Txn → ℕ → Store
-with_txn s txn seq =
-    record s { queue = record s.queue { colls = colls_after s.queue.colls txn.ops; txns = s.queue.txns ++ txn ∷ []; last = seq } }
+with_txn s txn seq = record s { queue = queue_with s.queue txn seq }
 
 -- All that waited is journalled, applied and committed.
 pub record IsDrained (old new : Store) : Type 0 where
@@ -57,5 +63,5 @@ pub record IsDrained (old new : Store) : Type 0 where
   pub numbers : new.numbers ≡ record { journalled = old.queue.last; committed = old.queue.last }
   pub queue : new.queue ≡ record old.queue { txns = [] }
   pub works : Works new
-  pub ring : (new.ring.head.size ≡ old.ring.head.size)
-  pub fsid : (new.ring.head.fsid ≡ old.ring.head.fsid)
+  pub size : new.ring.head.size ≡ old.ring.head.size
+  pub fsid : new.ring.head.fsid ≡ old.ring.head.fsid

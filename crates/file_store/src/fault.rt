@@ -1,8 +1,9 @@
 //! Why a call gives up.
 ghost use Rattle.std.specs.Prelude.{◌≡◌};
-ghost use Rattle.file_store.specs.Faults.{of_turn, first_of};
+ghost use Rattle.file_store.specs.Faults.{first_of, of_index, of_queue, of_turn};
 
 use fs_model::Why;
+use index_fault::IndexFault;
 use store_turns::StoreFault;
 use tree_api::TreePath;
 
@@ -83,4 +84,59 @@ pub enum ReadFault {
     },
     /// Want of memory.
     Memory,
+}
+
+impl TurnFault {
+    /// What the store has met first, once it was answered.
+    pub fn first(&self) -> First
+        ensures { result ≡ first_of self.now }
+    {
+        match self {
+            TurnFault::Broken(first) => *first,
+            TurnFault::Tree => First::Tree,
+            TurnFault::Device => First::Device,
+            TurnFault::Damaged { .. } => First::Damaged,
+            TurnFault::Memory => First::Memory,
+        }
+    }
+}
+
+impl From<StoreFault> for TurnFault {
+    ghost from_gives = { λ error fault. fault ≡ of_turn error };
+
+    fn from(error: StoreFault) -> TurnFault {
+        match error {
+            StoreFault::Damaged { path } => TurnFault::Damaged { path },
+            StoreFault::Tree => TurnFault::Tree,
+            StoreFault::Device => TurnFault::Device,
+            StoreFault::Memory => TurnFault::Memory,
+        }
+    }
+}
+
+impl From<IndexFault> for ReadFault {
+    ghost from_gives = { λ error fault. fault ≡ of_index error };
+
+    fn from(error: IndexFault) -> ReadFault {
+        match error {
+            IndexFault::Memory => ReadFault::Memory,
+            IndexFault::Tree => ReadFault::Tree,
+            IndexFault::Damaged { path } => ReadFault::Damaged { path },
+        }
+    }
+}
+
+impl From<store_queue::QueueFault> for QueueFault {
+    ghost from_gives = { λ error fault. fault ≡ of_queue error };
+
+    fn from(error: store_queue::QueueFault) -> QueueFault {
+        match error {
+            store_queue::QueueFault::Txn { op, why } => QueueFault::Txn { op, why },
+            store_queue::QueueFault::NotBuilt { op } => QueueFault::NotBuilt { op },
+            store_queue::QueueFault::TooLarge { need, size } => QueueFault::TooLarge { need, size },
+            store_queue::QueueFault::QueueFull => QueueFault::QueueFull,
+            store_queue::QueueFault::NumbersSpent => QueueFault::NumbersSpent,
+            store_queue::QueueFault::Memory => QueueFault::Memory,
+        }
+    }
 }

@@ -1,18 +1,21 @@
 //! The store: what it takes, and what it drains.
-ghost use Rattle.std.specs.Prelude.{◌≡◌, ◌≢◌, ◌≤◌, ◌+◌, ℕ, length, Some, Err, IfOk, OnOk, OnErr, IfErr, IsErrOf};
+ghost use Rattle.std.specs.Prelude.{◌≡◌, ◌≢◌, ◌≤◌, ◌+◌, ◌-◌, ℕ, length, Some, Err, IfOk, OnOk, OnErr, IfErr, IsErrOf};
 ghost use Rattle.fault_count.specs.Counted.{Counted};
-ghost use Rattle.fs_model.specs.Check.{IsAccepted, colls_after};
 ghost use Rattle.tree_api.specs.Tree.{Path};
+ghost use Rattle.ring_journal.specs.State.{Holds as RingHolds};
 ghost use Rattle.store_history.specs.History.{History};
-ghost use Rattle.built_ops.specs.Built.{CanDo};
-ghost use Rattle.file_store.specs.Store.{Store, Works, IsItsTree, IsItsDevice, IsDrained, with_txn};
+ghost use Rattle.store_queue.specs.Waiting.{none_waiting};
+ghost use Rattle.apply_ops.specs.Next.{IsReady};
+ghost use Rattle.file_store.specs.Store.{Works, IsCounted, IsItsTree, IsItsDevice, IsDrained, with_txn, working};
 ghost use Rattle.file_store.specs.Holds.{Holds, Leaves, Waits, with_waiting};
 ghost use Rattle.file_store.specs.Faults.{BreaksAt, QueueTells, queue_answer};
 
 use crate::fault::{First, QueueFault, TurnFault};
+use crate::working::drain_parts;
 use dev_api::Device;
 use file_side::Parts;
 use fs_model::Txn;
+use fs_names::Settings;
 use ring_journal::Ring;
 use std::alloc::Global;
 use std::marker::Model;
@@ -32,23 +35,68 @@ pub struct FileStore {
 }
 
 impl Model for FileStore {
-    ghost use Rattle.file_store.specs.Store.{Store, Works, IsCounted};
+    ghost use Rattle.std.specs.Coded.{codes};
+    ghost use Rattle.store_queue.specs.Waiting.{colls_code};
+    ghost use Rattle.file_store.specs.Store.{Store, IsSound};
 
     ghost Value = { Store };
 
+    ghost coded = { Prim.hlevel (codes, colls_code) };
+
     ghost view = { λ s. record { set = s.parts.set; numbers = s.numbers; ring = s.ring; queue = s.queue; first = s.first } };
 
-    ghost invariant = { λ s. Works s.. → IsCounted .. };
+    ghost invariant = { λ s. IsSound (record { set = s.parts.set; numbers = s.numbers; ring = s.ring; queue = s.queue; first = s.first }) };
 }
 
 impl FileStore {
+    /// A store on a tree and a ring that were just mounted.
+    pub fn new(
+        alloc: Global,
+        parts: Parts,
+        numbers: Numbers,
+        ring: Ring,
+        queue: Queue,
+    ) -> FileStore
+        requires counted { IsCounted (working parts.set numbers ring queue) }
+        ensures { result ≡ working parts.set numbers ring queue }
+    {
+        FileStore {
+            alloc,
+            parts,
+            numbers,
+            ring,
+            queue,
+            first: None,
+        }
+    }
+
     /// The number of the last transaction acknowledged.
     pub fn acked(&self) -> u64
         ensures { result ≡ self.now.numbers.journalled }
+    {
+        self.numbers.journalled
+    }
 
     /// The number of the last transaction queued.
     pub fn last(&self) -> u64
         ensures { result ≡ self.now.queue.last }
+    {
+        self.queue.last()
+    }
+
+    /// The fault that a drain met, after which nothing but a mount is of use.
+    pub fn first(&self) -> Option<First>
+        ensures { result ≡ self.now.first }
+    {
+        self.first
+    }
+
+    // Where memory comes from, and how names are placed.
+    pub(crate) fn place(&self) -> (Global, Settings)
+        ensures { result.1 ≡ self.now.set }
+    {
+        (self.alloc, self.parts.set)
+    }
 
     /// Queues a transaction, if it is accepted after all that is queued and there is room, and gives its number. Neither tree
     /// nor device is touched.
@@ -57,6 +105,16 @@ impl FileStore {
         ensures after { IfOk result (λ seq. self.new ≡ with_txn self.old txn seq) }
         ensures waits { (h : History) → Waits h self.old → OnOk result (Waits h self.new) }
         ensures err { OnErr result (self.new ≡ self.old) }
+    {
+        if let Some(first) = self.first {
+            return Err(QueueFault::Broken(first));
+        }
+        let seq = match self.queue.queue(txn) {
+            Ok(seq) => seq,
+            Err(fault) => return Err(QueueFault::from(fault)),
+        };
+        Ok(seq)
+    }
 
     /// Journals, syncs and applies each transaction that waits, one after the other, and then commits. It commits in between
     /// where the journal has no room. Gives the last number, which is acknowledged then.
@@ -81,4 +139,23 @@ impl FileStore {
         ensures device_cause { IsErrOf result TurnFault.Device → Counted (D.state dev.old).faults (D.state dev.new).faults }
         ensures tree_faults { (T.disk tree.old).faults ≤ (T.disk tree.new).faults }
         ensures device_faults { (D.state dev.old).faults ≤ (D.state dev.new).faults }
+    {
+        if let Some(first) = self.first {
+            return Err(TurnFault::Broken(first));
+        }
+        let done = drain_parts(
+            self.alloc,
+            &self.parts,
+            &mut self.numbers,
+            &mut self.ring,
+            &mut self.queue,
+            tree,
+            dev,
+        );
+        if let Err(fault) = done {
+            self.first = Some(fault.first());
+            return Err(fault);
+        }
+        Ok(self.numbers.journalled)
+    }
 }

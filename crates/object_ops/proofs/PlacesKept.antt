@@ -1,4 +1,4 @@
--- What stands where files are built stays free or a file.
+-- What is free or a file stays so.
 use Rattle.std.proofs.Common.{◌≡◌, ◌≢◌, ◌⊎◌, inl, inr, ⊎_elim, ℕ, ◌<◌, ◌≤◌, false, List, length, refl, sym, ◌∙◌, ap, subst, arith, Some}
 use Rattle.std.proofs.lemmas.Bool.{cases_eq, cases_lt}
 use Rattle.fs_names.specs.declared.settings.Settings.{Settings}
@@ -9,25 +9,25 @@ use Rattle.tree_api.specs.Renaming.{SameNamed, Renamed, NoNode, Without, Removes
 use Rattle.tree_api.proofs.Moments.{Joins, wider, leaves_run}
 use Rattle.tree_api.proofs.Nodes.{dec_path, free_along}
 use Rattle.tree_api.proofs.Renaming.{moves_by, only_stays}
-use Rattle.lfn_index.specs.Changes.{aside, new_file, Making, MakesAt}
+use Rattle.lfn_index.specs.Changes.{new_file, Making, MakesAt}
 use Rattle.lfn_index.specs.Directory.{entry}
 use Rattle.lfn_index.specs.Renaming.{Added, BuiltAside, Come}
 use Rattle.lfn_index.proofs.Keeping.{new_kind}
 use Rattle.object_file.specs.Passing.{FileGoes}
-use Rattle.op_effects.specs.Ready.{KeepsPlaces}
+use Rattle.op_effects.specs.Clear.{KeepsFree}
 
-keeps_same : (c : Tree) → KeepsPlaces c c
-keeps_same c step free = free
+keeps_same : (c : Tree) → KeepsFree c c
+keeps_same c q free = free
 
-keeps_joins : Joins KeepsPlaces
-keeps_joins a b c one two step free = two step (one step free)
+keeps_joins : Joins KeepsFree
+keeps_joins a b c one two q free = two q (one q free)
 
 -- calls that only look
-pub places_still : (d0 d1 : Disk) → Sound d0 → Stays d0 d1 → Leaves KeepsPlaces d0 d1
-places_still d0 d1 s0 stays = only_stays KeepsPlaces keeps_same keeps_joins d0 d1 s0 stays
+pub free_still : (d0 d1 : Disk) → Sound d0 → Stays d0 d1 → Leaves KeepsFree d0 d1
+free_still d0 d1 s0 stays = only_stays KeepsFree keeps_same keeps_joins d0 d1 s0 stays
 
-pub places_then : (d0 d1 d2 : Disk) → Sound d1 → Leaves KeepsPlaces d0 d1 → Leaves KeepsPlaces d1 d2 → Leaves KeepsPlaces d0 d2
-places_then d0 d1 d2 s1 one two = leaves_run KeepsPlaces keeps_same keeps_joins d0 d1 d2 s1 one two
+pub free_then : (d0 d1 d2 : Disk) → Sound d1 → Leaves KeepsFree d0 d1 → Leaves KeepsFree d1 d2 → Leaves KeepsFree d0 d2
+free_then d0 d1 d2 s1 one two = leaves_run KeepsFree keeps_same keeps_joins d0 d1 d2 s1 one two
 
 -- ---- a file changes
 
@@ -37,15 +37,14 @@ passing_kind n a b x y is m = elim (cases_eq m n) [
   | inr not ↦ ap (λ (v : Version). v.dir) (is.others m not)
 ]
 
-passing_keeps : (n : ℕ) (a b : Version) (x y : Tree) → Passing n a b x y → KeepsPlaces x y
-passing_keeps n a b x y is step was =
-    free_along (entry aside step) x y (ap (λ (f : Names). f (entry aside step)) is.names) (λ m here. passing_kind n a b x y is m) was
+passing_keeps : (n : ℕ) (a b : Version) (x y : Tree) → Passing n a b x y → KeepsFree x y
+passing_keeps n a b x y is q was = free_along q x y (ap (λ (f : Names). f q) is.names) (λ m here. passing_kind n a b x y is m) was
 
-pub places_goes : (p : Path) (R : Version → Version → Type 0) (d0 d1 : Disk) (done : Type 0) → FileGoes p R d0 d1 done → Leaves KeepsPlaces d0 d1
-places_goes p R d0 d1 done goes =
+pub free_goes : (p : Path) (R : Version → Version → Type 0) (d0 d1 : Disk) (done : Type 0) → FileGoes p R d0 d1 done → Leaves KeepsFree d0 d1
+free_goes p R d0 d1 done goes =
     let from = d0.tree.node goes.n in
     record {
-      any_moment = wider (Passing goes.n from goes.to) KeepsPlaces (λ x y is. passing_keeps goes.n from goes.to x y is) d0 d1 goes.any_moment;
+      any_moment = wider (Passing goes.n from goes.to) KeepsFree (λ x y is. passing_keeps goes.n from goes.to x y is) d0 d1 goes.any_moment;
       now = passing_keeps goes.n from goes.to d0.tree d1.tree goes.partly;
     }
 
@@ -57,17 +56,15 @@ free_named a c q same was = free_along q a c (ap (λ (f : Names). f q) same.at) 
 -- to such as leave what is free or a file
 module _ (Such : Tree → Type 0) (Own : ℕ → Type 0) (old new : Disk) (sound : Sound old) (leaves : Leaves (Renamed Such Own) old new)
     (free : (a c : Tree) → a.at ≡ old.tree.at → ((m : ℕ) → (Own m → ⊥) → c.node m ≡ a.node m) → Such c → (q : Path) → IsFree a q → IsFree c q) where
-  renamed_now : KeepsPlaces old.tree new.tree
-  renamed_now step was = ⊎_elim
-      (λ same. free_named old.tree new.tree (entry aside step) same was)
-      (λ such. free old.tree new.tree refl leaves.now.others such (entry aside step) was)
-      leaves.now.names
+  renamed_now : KeepsFree old.tree new.tree
+  renamed_now q was =
+      ⊎_elim (λ same. free_named old.tree new.tree q same was) (λ such. free old.tree new.tree refl leaves.now.others such q was) leaves.now.names
 
-  renamed_places : Leaves KeepsPlaces old new
-  renamed_places = record {
-    any_moment = moves_by Such Own KeepsPlaces old new sound leaves
-        (λ a c may same step was. free_named a c (entry aside step) same was)
-        (λ a c may at others such step was. free a c at others such (entry aside step) was);
+  renamed_free : Leaves KeepsFree old new
+  renamed_free = record {
+    any_moment = moves_by Such Own KeepsFree old new sound leaves
+        (λ a c may same q was. free_named a c q same was)
+        (λ a c may at others such q was. free a c at others such q was);
     now = renamed_now;
   }
 
@@ -78,9 +75,9 @@ free_without p t a c at others gone q was = elim (dec_path q p) [
 ]
 
 -- a name goes
-pub places_gone : (p : Path) (d0 d1 : Disk) → Sound d0 → Leaves (Removes p d0.tree) d0 d1 → Leaves KeepsPlaces d0 d1
-places_gone p d0 d1 s0 leaves =
-    renamed_places (Without p d0.tree) NoNode d0 d1 s0 leaves (λ a c at others gone q was. free_without p d0.tree a c at others gone q was)
+pub free_gone : (p : Path) (d0 d1 : Disk) → Sound d0 → Leaves (Removes p d0.tree) d0 d1 → Leaves KeepsFree d0 d1
+free_gone p d0 d1 s0 leaves =
+    renamed_free (Without p d0.tree) NoNode d0 d1 s0 leaves (λ a c at others gone q was. free_without p d0.tree a c at others gone q was)
 
 -- a new file comes
 module _ (set : Settings) (place dir : Path) (text : List ℕ) (d0 d1 : Disk) (making : Making set place dir text d0 d1) where
@@ -128,10 +125,10 @@ module _ (set : Settings) (place dir : Path) (text : List ℕ) (d0 d1 : Disk) (m
     free_come : Come (200 < length text) place (entry dir making.step) making.n (new_file text) d0.tree c → (q : Path) → IsFree a q → IsFree c q
     free_come come q was = ⊎_elim (λ new. free_added new.0 new.1 q was) (λ built. free_built built.1 q was) come
 
-pub places_made : (set : Settings) (place dir : Path) (text : List ℕ) (d0 d1 : Disk) → Sound d0 → MakesAt set place dir text d0 d1 → Leaves KeepsPlaces d0 d1
-places_made set place dir text d0 d1 s0 (inl cleared) =
-    renamed_places (λ c. (200 < length text) × Without place d0.tree c) NoNode d0 d1 s0 cleared
+pub free_made : (set : Settings) (place dir : Path) (text : List ℕ) (d0 d1 : Disk) → Sound d0 → MakesAt set place dir text d0 d1 → Leaves KeepsFree d0 d1
+free_made set place dir text d0 d1 s0 (inl cleared) =
+    renamed_free (λ c. (200 < length text) × Without place d0.tree c) NoNode d0 d1 s0 cleared
     (λ a c at others gone q was. free_without place d0.tree a c at others gone.1 q was)
-places_made set place dir text d0 d1 s0 (inr making) =
-    renamed_places (Come (200 < length text) place (entry dir making.step) making.n (new_file text) d0.tree) (λ m. m ≡ making.n) d0 d1 s0 making.leaves
+free_made set place dir text d0 d1 s0 (inr making) =
+    renamed_free (Come (200 < length text) place (entry dir making.step) making.n (new_file text) d0.tree) (λ m. m ≡ making.n) d0 d1 s0 making.leaves
     (λ a c at others come q was. free_come set place dir text d0 d1 making a c at others come q was)

@@ -12,7 +12,8 @@ ghost use Rattle.object_file.specs.Passing.{FileGoes};
 ghost use Rattle.tree_stands.specs.Files.{set_pair, without_ours, attrs_file, attr_gone_file, attrs_gone_file};
 ghost use Rattle.tree_stands.specs.Standing.{ObjectCrash};
 ghost use Rattle.tree_stands.specs.Trees.{dir_of, name_at, ForObject};
-ghost use Rattle.op_effects.specs.Ready.{Ready, OffStays, KeepsPlaces};
+ghost use Rattle.op_effects.specs.Clear.{KeepsFree};
+ghost use Rattle.op_effects.specs.Ready.{Ready, OffStays};
 ghost use Rattle.fs_cells.specs.Parts.{same_bytes};
 ghost use Rattle.object_ops.specs.Attributes.{Setting, Dropping, Drops, DropsAll};
 
@@ -142,7 +143,7 @@ pub fn set_attrs<T: FileTree>(
     ensures counts { Counts (IsErrOf result IndexFault.Tree) 3 0 (T.disk tree.old) (T.disk tree.new) }
     ensures crash { T.tells tree.new → ObjectCrash set.now (name_at coll.now oid.now) (attrs_file (oid_text oid.now) pairs.now) (T.disk tree.old) (T.disk tree.new) }
     ensures off { T.tells tree.new → Leaves (OffStays (dir_of coll.now)) (T.disk tree.old) (T.disk tree.new) }
-    ensures places { T.tells tree.new → Leaves KeepsPlaces (T.disk tree.old) (T.disk tree.new) }
+    ensures free { T.tells tree.new → Leaves KeepsFree (T.disk tree.old) (T.disk tree.new) }
     ensures done { T.tells tree.new → OnOk result (ForObject set.now (name_at coll.now oid.now) (λ x y. y ≡ attrs_file (oid_text oid.now) pairs.now x) (T.disk tree.old).tree (T.disk tree.new).tree) }
     ensures there { T.tells tree.new → IsDir (T.disk tree.new).tree (dir_of coll.now) }
     ensures ready { T.tells tree.new → OnOk result (Ready set.now (T.disk tree.new)) }
@@ -169,7 +170,7 @@ pub fn rm_attr<T: FileTree>(
     ensures counts { Counts (IsErrOf result IndexFault.Tree) 3 0 (T.disk tree.old) (T.disk tree.new) }
     ensures crash { T.tells tree.new → ObjectCrash set.now (name_at coll.now oid.now) (attr_gone_file (oid_text oid.now) name.now) (T.disk tree.old) (T.disk tree.new) }
     ensures off { T.tells tree.new → Leaves (OffStays (dir_of coll.now)) (T.disk tree.old) (T.disk tree.new) }
-    ensures places { T.tells tree.new → Leaves KeepsPlaces (T.disk tree.old) (T.disk tree.new) }
+    ensures free { T.tells tree.new → Leaves KeepsFree (T.disk tree.old) (T.disk tree.new) }
     ensures done { T.tells tree.new → OnOk result (ForObject set.now (name_at coll.now oid.now) (λ x y. y ≡ attr_gone_file (oid_text oid.now) name.now x) (T.disk tree.old).tree (T.disk tree.new).tree) }
     ensures there { T.tells tree.new → IsDir (T.disk tree.new).tree (dir_of coll.now) }
     ensures ready { T.tells tree.new → OnOk result (Ready set.now (T.disk tree.new)) }
@@ -195,7 +196,7 @@ pub fn rm_attrs<T: FileTree>(
     ensures counts { Counts (IsErrOf result IndexFault.Tree) 3 0 (T.disk tree.old) (T.disk tree.new) }
     ensures crash { T.tells tree.new → ObjectCrash set.now (name_at coll.now oid.now) (attrs_gone_file (oid_text oid.now)) (T.disk tree.old) (T.disk tree.new) }
     ensures off { T.tells tree.new → Leaves (OffStays (dir_of coll.now)) (T.disk tree.old) (T.disk tree.new) }
-    ensures places { T.tells tree.new → Leaves KeepsPlaces (T.disk tree.old) (T.disk tree.new) }
+    ensures free { T.tells tree.new → Leaves KeepsFree (T.disk tree.old) (T.disk tree.new) }
     ensures done { T.tells tree.new → OnOk result (ForObject set.now (name_at coll.now oid.now) (λ x y. y ≡ attrs_gone_file (oid_text oid.now) x) (T.disk tree.old).tree (T.disk tree.new).tree) }
     ensures there { T.tells tree.new → IsDir (T.disk tree.new).tree (dir_of coll.now) }
     ensures ready { T.tells tree.new → OnOk result (Ready set.now (T.disk tree.new)) }

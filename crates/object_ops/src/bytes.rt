@@ -7,7 +7,8 @@ ghost use Rattle.tree_api.specs.Tree.{Path, IsDir, zeros};
 ghost use Rattle.tree_stands.specs.Files.{written_file, cut_file};
 ghost use Rattle.tree_stands.specs.Standing.{ObjectCrash};
 ghost use Rattle.tree_stands.specs.Trees.{dir_of, name_at, ForObject};
-ghost use Rattle.op_effects.specs.Ready.{Ready, OffStays, KeepsPlaces};
+ghost use Rattle.op_effects.specs.Clear.{KeepsFree};
+ghost use Rattle.op_effects.specs.Ready.{Ready, OffStays};
 
 use crate::finding::{name_fits, open};
 use fs_names::{Coll, Oid, Pos, Settings};
@@ -34,7 +35,7 @@ pub fn write<T: FileTree>(
     ensures counts { Counts (IsErrOf result IndexFault.Tree) 3 0 (T.disk tree.old) (T.disk tree.new) }
     ensures crash { T.tells tree.new → ObjectCrash set.now (name_at coll.now oid.now) (written_file (oid_text oid.now) at bytes.now) (T.disk tree.old) (T.disk tree.new) }
     ensures off { T.tells tree.new → Leaves (OffStays (dir_of coll.now)) (T.disk tree.old) (T.disk tree.new) }
-    ensures places { T.tells tree.new → Leaves KeepsPlaces (T.disk tree.old) (T.disk tree.new) }
+    ensures free { T.tells tree.new → Leaves KeepsFree (T.disk tree.old) (T.disk tree.new) }
     ensures done { T.tells tree.new → OnOk result (ForObject set.now (name_at coll.now oid.now) (λ x y. y ≡ written_file (oid_text oid.now) at bytes.now x) (T.disk tree.old).tree (T.disk tree.new).tree) }
     ensures there { T.tells tree.new → IsDir (T.disk tree.new).tree (dir_of coll.now) }
     ensures ready { T.tells tree.new → OnOk result (Ready set.now (T.disk tree.new)) }
@@ -63,7 +64,7 @@ pub fn zero<T: FileTree>(
     ensures counts { Counts (IsErrOf result IndexFault.Tree) 4 0 (T.disk tree.old) (T.disk tree.new) }
     ensures crash { T.tells tree.new → ObjectCrash set.now (name_at coll.now oid.now) (written_file (oid_text oid.now) at (zeros len)) (T.disk tree.old) (T.disk tree.new) }
     ensures off { T.tells tree.new → Leaves (OffStays (dir_of coll.now)) (T.disk tree.old) (T.disk tree.new) }
-    ensures places { T.tells tree.new → Leaves KeepsPlaces (T.disk tree.old) (T.disk tree.new) }
+    ensures free { T.tells tree.new → Leaves KeepsFree (T.disk tree.old) (T.disk tree.new) }
     ensures done { T.tells tree.new → OnOk result (ForObject set.now (name_at coll.now oid.now) (λ x y. y ≡ written_file (oid_text oid.now) at (zeros len) x) (T.disk tree.old).tree (T.disk tree.new).tree) }
     ensures there { T.tells tree.new → IsDir (T.disk tree.new).tree (dir_of coll.now) }
     ensures ready { T.tells tree.new → OnOk result (Ready set.now (T.disk tree.new)) }
@@ -91,7 +92,7 @@ pub fn truncate<T: FileTree>(
     ensures counts { Counts (IsErrOf result IndexFault.Tree) 3 0 (T.disk tree.old) (T.disk tree.new) }
     ensures crash { T.tells tree.new → ObjectCrash set.now (name_at coll.now oid.now) (cut_file (oid_text oid.now) len) (T.disk tree.old) (T.disk tree.new) }
     ensures off { T.tells tree.new → Leaves (OffStays (dir_of coll.now)) (T.disk tree.old) (T.disk tree.new) }
-    ensures places { T.tells tree.new → Leaves KeepsPlaces (T.disk tree.old) (T.disk tree.new) }
+    ensures free { T.tells tree.new → Leaves KeepsFree (T.disk tree.old) (T.disk tree.new) }
     ensures done { T.tells tree.new → OnOk result (ForObject set.now (name_at coll.now oid.now) (λ x y. y ≡ cut_file (oid_text oid.now) len x) (T.disk tree.old).tree (T.disk tree.new).tree) }
     ensures there { T.tells tree.new → IsDir (T.disk tree.new).tree (dir_of coll.now) }
     ensures ready { T.tells tree.new → OnOk result (Ready set.now (T.disk tree.new)) }

@@ -9,7 +9,8 @@ ghost use Rattle.tree_stands.specs.Files.{touched_file};
 ghost use Rattle.tree_stands.specs.Names.{NameFits};
 ghost use Rattle.tree_stands.specs.Standing.{ObjectCrash};
 ghost use Rattle.tree_stands.specs.Trees.{dir_of, name_at, ForObject};
-ghost use Rattle.op_effects.specs.Ready.{Ready, OffStays, KeepsPlaces};
+ghost use Rattle.op_effects.specs.Clear.{KeepsFree};
+ghost use Rattle.op_effects.specs.Ready.{Ready, OffStays};
 ghost use Rattle.object_ops.specs.Object.{GoesBy, ReadsBy};
 
 use fs_names::{Coll, Oid, Pos, Settings};
@@ -41,7 +42,7 @@ pub(crate) fn open<T: FileTree>(
     ensures told { T.tells tree.new → T.tells tree.old }
     ensures counts { Counts (IsErrOf result IndexFault.Tree) 3 0 (T.disk tree.old) (T.disk tree.new) }
     ensures goes { T.tells tree.new → GoesBy set.now (name_at coll.now oid.now) (touched_file (oid_text oid.now)) (T.disk tree.old) (T.disk tree.new) }
-    ensures places { T.tells tree.new → Leaves KeepsPlaces (T.disk tree.old) (T.disk tree.new) }
+    ensures free { T.tells tree.new → Leaves KeepsFree (T.disk tree.old) (T.disk tree.new) }
     ensures reads { T.tells tree.new → OnOk result (ReadsBy set.now (name_at coll.now oid.now) (touched_file (oid_text oid.now)) (T.disk tree.old).tree (T.disk tree.new).tree) }
     ensures ready { T.tells tree.new → OnOk result (Ready set.now (T.disk tree.new)) }
     ensures stands { T.tells tree.new → IfOk result (StandsAt set.now (T.disk tree.new).tree (dir_of coll.now) (oid_text oid.now)) }
@@ -72,7 +73,7 @@ pub fn touch<T: FileTree>(
     ensures counts { Counts (IsErrOf result IndexFault.Tree) 3 0 (T.disk tree.old) (T.disk tree.new) }
     ensures crash { T.tells tree.new → ObjectCrash set.now (name_at coll.now oid.now) (touched_file (oid_text oid.now)) (T.disk tree.old) (T.disk tree.new) }
     ensures off { T.tells tree.new → Leaves (OffStays (dir_of coll.now)) (T.disk tree.old) (T.disk tree.new) }
-    ensures places { T.tells tree.new → Leaves KeepsPlaces (T.disk tree.old) (T.disk tree.new) }
+    ensures free { T.tells tree.new → Leaves KeepsFree (T.disk tree.old) (T.disk tree.new) }
     ensures done { T.tells tree.new → OnOk result (ForObject set.now (name_at coll.now oid.now) (λ x y. y ≡ touched_file (oid_text oid.now) x) (T.disk tree.old).tree (T.disk tree.new).tree) }
     ensures there { T.tells tree.new → IsDir (T.disk tree.new).tree (dir_of coll.now) }
     ensures ready { T.tells tree.new → OnOk result (Ready set.now (T.disk tree.new)) }

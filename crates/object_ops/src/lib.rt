@@ -2,8 +2,8 @@
 //!
 //! Each begins where `Ready` holds, with the object's collection there. What a crash leaves at any moment of it are images
 //! from before in which each cell of the object, with the guard beside it, is as it was, as it read, or as the operation
-//! makes it; all else stays. No directory comes where files are built. Once an operation is done the object's file is what it
-//! makes of it, and `Ready` holds again. None makes anything stable but what building a long name's file does.
+//! makes it; all else stays, and no directory comes. Once an operation is done the object's file is what it makes of it, and
+//! `Ready` holds again. None makes anything stable but what building a long name's file does.
 #![tactic(auto)]
 
 mod attributes;

@@ -6,7 +6,8 @@ ghost use Rattle.tree_api.specs.Tree.{Path, IsDir};
 ghost use Rattle.tree_stands.specs.Files.{no_file};
 ghost use Rattle.tree_stands.specs.Standing.{ObjectCrash};
 ghost use Rattle.tree_stands.specs.Trees.{dir_of, name_at, ForObject};
-ghost use Rattle.op_effects.specs.Ready.{Ready, OffStays, KeepsPlaces};
+ghost use Rattle.op_effects.specs.Clear.{KeepsFree};
+ghost use Rattle.op_effects.specs.Ready.{Ready, OffStays};
 
 use crate::finding::name_fits;
 use fs_names::{Coll, Oid, Settings};
@@ -30,7 +31,7 @@ pub fn remove<T: FileTree>(
     ensures counts { Counts (IsErrOf result IndexFault.Tree) 1 0 (T.disk tree.old) (T.disk tree.new) }
     ensures crash { T.tells tree.new → ObjectCrash set.now (name_at coll.now oid.now) no_file (T.disk tree.old) (T.disk tree.new) }
     ensures off { T.tells tree.new → Leaves (OffStays (dir_of coll.now)) (T.disk tree.old) (T.disk tree.new) }
-    ensures places { T.tells tree.new → Leaves KeepsPlaces (T.disk tree.old) (T.disk tree.new) }
+    ensures free { T.tells tree.new → Leaves KeepsFree (T.disk tree.old) (T.disk tree.new) }
     ensures done { T.tells tree.new → OnOk result (ForObject set.now (name_at coll.now oid.now) (λ x y. y ≡ no_file x) (T.disk tree.old).tree (T.disk tree.new).tree) }
     ensures there { T.tells tree.new → IsDir (T.disk tree.new).tree (dir_of coll.now) }
     ensures ready { T.tells tree.new → OnOk result (Ready set.now (T.disk tree.new)) }

@@ -15,12 +15,18 @@ DirBelow n p t q = (rest : Path) × (q ≡ p ++ rest) × (length rest ≡ n) × 
 abbrev pub IsShallow : Path → Tree → Type 0
 IsShallow p t = (q : Path) → DirBelow 9 p t q → ⊥
 
--- no file stands in a collection's place, and no collection is too deep, nor a tree in the trash
+-- no file stands in a collection's place, no directory stands in a collection, and no collection is too deep, nor a tree in
+-- the trash
 pub record IsClear (t : Tree) : Type 0 where
   pub free : (c : Coll) → CollFits c → IsFile t (dir_of c) → ⊥
+  pub flat : (c : Coll) → CollFits c → (step : List ℕ) → IsFree t (entry (dir_of c) step)
   pub colls : (c : Coll) → CollFits c → IsShallow (dir_of c) t
   pub trees : (step : List ℕ) → IsShallow (entry trash step) t
 
 -- what is free or a file stays so
 abbrev pub KeepsFree : Tree → Tree → Type 0
 KeepsFree e f = (q : Path) → IsFree e q → IsFree f q
+
+-- and nothing comes in the way
+abbrev pub KeepsClear : Tree → Tree → Type 0
+KeepsClear e f = IsClear e → IsClear f

@@ -19,7 +19,7 @@ digits_length fsid is = length-encode_with lower_digits fsid ∙ ap (λ (k : ℕ
 pub fsid_length : (fsid : List ℕ) → IsFsid fsid → length (fsid_text fsid) ≡ 33
 fsid_length fsid is = length-append (encode_lower fsid) (10 ∷ []) ∙ ap (λ (k : ℕ). k + 1) (digits_length fsid is)
 
-spelled_bytes : (text fsid : List ℕ) → IsFsid fsid → text ≡ fsid_text fsid → decode_sized (take 32 text) 16 ≡ Ok fsid
+pub spelled_bytes : (text fsid : List ℕ) → IsFsid fsid → text ≡ fsid_text fsid → decode_sized (take 32 text) 16 ≡ Ok fsid
 spelled_bytes text fsid is spelled =
     ap (λ (l : List ℕ). decode_sized l 16) (ap (take 32) spelled ∙ take_at (encode_lower fsid) (10 ∷ []) 32 (digits_length fsid is))
     ∙ decode_sized-encode_lower fsid 16 is.long (are_bytes fsid is.bytes)

@@ -10,3 +10,4 @@ pub mod Dirs
 pub mod Files
 pub mod Whole
 pub mod Looking
+pub mod Once

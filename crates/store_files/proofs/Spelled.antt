@@ -113,3 +113,10 @@ pub not_ahead : (text : List ℕ) (a : Settings) → text ≡ settings_text a �
 not_ahead text a is other b fits is2 =
     let same : length (mode_word Parallel) ≡ length (mode_word WriteAhead) = ap (λ m. length (mode_word m)) (sym other) ∙ ap length (mode_is a b (sym is ∙ is2)) ∙ ap (λ m. length (mode_word m)) fits.mode in
     omega (arith, same)
+
+-- settings with one text have the same values
+pub parts_are : (a b : Settings) → settings_text a ≡ settings_text b
+    → (signed_decimal a.merge ≡ signed_decimal b.merge) × (decimal a.split ≡ decimal b.split) × (decimal a.lfn ≡ decimal b.lfn) × (mode_word a.mode ≡ mode_word b.mode)
+unfolding settings_text
+parts_are a b e =
+    same_as (settings_text a) (signed_decimal a.merge) (decimal a.split) (decimal a.lfn) (mode_word a.mode) (signed_clear a.merge) (decimal_clear a.split) (decimal_clear a.lfn) (mode_clear a.mode) refl b e

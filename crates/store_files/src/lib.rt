@@ -14,7 +14,7 @@ mod texts;
 mod values;
 
 pub use fault::{MakeFault, StoreFault};
-pub use laws::made_law;
+pub use laws::{made_law, one_law};
 pub use new_store::{is_new, make_store};
 pub use reading::{Identity, read_store};
 pub use settings::{settings_of, settings_text};

@@ -11,8 +11,9 @@ use Rattle.store_history.specs.History.{History, end_of, replay_of, IsTxn}
 use Rattle.store_history.specs.Images.{Images}
 use Rattle.store_history.specs.Journal.{above}
 use Rattle.store_history.proofs.Entries.{spells_length}
-use Rattle.store_turns.specs.Calls.{WhereReplayed}
+use Rattle.store_turns.specs.Calls.{WhereImages, WhereReplayed}
 use Rattle.store_turns.specs.Theory.{Reads, Theory}
+use Rattle.store_turns.specs.declared.numbers.How.{How}
 use Rattle.store_turns.specs.declared.numbers.How.TheVariants.{Live, Replay}
 use Rattle.store_turns.proofs.Redone.{told_txn}
 use Rattle.store_mount.specs.Replays.{WhereSpelled}
@@ -103,3 +104,17 @@ module _ (image : Images Tree) (reads : Reads) (number : Tree → ℕ → Type 0
               early reads h n next (disk y).tree (omega (arith, le, is)) r)
               (cases_lt n stored.seq);
         }
+
+-- the tree is tidied behind the last one
+module _ (image : Images Tree) (n first : ℕ) (es : List Entry) (old mid new : Files) where
+  pub tidied_keeps : Sound mid → WhereSpelled image n first es old (λ h. Keeps (image h n n (end_of h)) old mid) → WhereImages image mid (λ h m lo hi. Keeps (image h m lo hi) mid new)
+      → WhereSpelled image n first es old (λ h. Keeps (image h n n (end_of h)) old new)
+  tidied_keeps sound so_far tidy before txns spells here =
+      let h : History = replay_of n before txns in
+      let P : Tree → Type 0 = image h n n (n + length txns) in
+      let k = so_far before txns spells here in
+      joined P old mid new k (tidy h n n (n + length txns) (now_from P old mid sound k))
+
+  pub tidied_reads : (reads : Reads) → WhereSpelled image n first es old (λ h. reads Live h (end_of h) mid.tree) → ((how : How) (h : History) (m : ℕ) → reads how h m mid.tree → reads how h m new.tree)
+      → WhereSpelled image n first es old (λ h. reads Live h (end_of h) new.tree)
+  tidied_reads reads so_far tidy before txns spells here = tidy Live (replay_of n before txns) (n + length txns) (so_far before txns spells here)

@@ -3,6 +3,6 @@ mod Told
 mod Going
 mod Ways
 mod Refusals
-mod Carried
+pub mod Carried
 mod Reopened
 mod Numbers

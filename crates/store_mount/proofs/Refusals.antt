@@ -14,22 +14,36 @@ use Rattle.store_turns.specs.Theory.{Reads, Theory}
 use Rattle.store_turns.proofs.Redone.{told_txn}
 use Rattle.store_mount.specs.declared.fault.MountFault.{MountFault}
 use Rattle.store_mount.specs.declared.fault.MountFault.TheVariants.{NoHeader, WrongFsid, Spent, BadSeq, JournalGap, Damaged, BadEntry, Tree as OfTree, Device, Memory}
-use Rattle.store_mount.specs.Causes.{AreFit, IsOutside, RefusesNumber, RefusesEntry, RefusesReplay, IsBadEntry, Loads, Explains}
+use Rattle.store_mount.specs.Causes.{AreFit, IsFoundFirst, IsOutside, RefusesNumber, RefusesLook, RefusesEntry, RefusesReplay, IsBadEntry, Loads, Explains}
 use Rattle.store_mount.proofs.Fit.{fit_at}
 use Rattle.store_mount.proofs.Told.{Spelled}
 use Rattle.store_mount.proofs.Ways.{some_head, no_gap, spelled}
 
-pub number_explains : (fits : List Op → Type 0) (number : Tree → ℕ → Type 0) (t : Tree) (bytes fsid : List ℕ) → Loads bytes fsid → (f : MountFault) → RefusesNumber number t f → Explains fits number fsid t bytes f
-number_explains fits number t bytes fsid loads NoHeader h = absurd h
-number_explains fits number t bytes fsid loads (WrongFsid tree found) h = absurd h
-number_explains fits number t bytes fsid loads Spent h = absurd h
-number_explains fits number t bytes fsid loads BadSeq h = (loads, h)
-number_explains fits number t bytes fsid loads (JournalGap start committed) h = absurd h
-number_explains fits number t bytes fsid loads (Damaged path) h = h
-number_explains fits number t bytes fsid loads (BadEntry seq) h = absurd h
-number_explains fits number t bytes fsid loads OfTree h = tt
-number_explains fits number t bytes fsid loads Device h = tt
-number_explains fits number t bytes fsid loads Memory h = tt
+-- what stops a mount before it does any entry again
+module _ (fits : List Op → Type 0) (number : Tree → ℕ → Type 0) (laid : Tree → Type 0) (t : Tree) (bytes fsid : List ℕ) (loads : Loads bytes fsid) where
+  pub number_explains : (f : MountFault) → RefusesNumber number t f → Explains fits number laid fsid t bytes f
+  number_explains NoHeader h = absurd h
+  number_explains (WrongFsid tree found) h = absurd h
+  number_explains Spent h = absurd h
+  number_explains BadSeq h = (loads, h)
+  number_explains (JournalGap start committed) h = absurd h
+  number_explains (Damaged path) h = absurd h
+  number_explains (BadEntry seq) h = absurd h
+  number_explains OfTree h = tt
+  number_explains Device h = tt
+  number_explains Memory h = tt
+
+  pub look_explains : (m : ℕ) → number t m → loads.head.seq ≤ m + 1 → (f : MountFault) → RefusesLook laid t f → Explains fits number laid fsid t bytes f
+  look_explains m is gap NoHeader h = absurd h
+  look_explains m is gap (WrongFsid tree found) h = absurd h
+  look_explains m is gap Spent h = absurd h
+  look_explains m is gap BadSeq h = absurd h
+  look_explains m is gap (JournalGap start committed) h = absurd h
+  look_explains m is gap (Damaged path) h = record { loads = loads; committed = m; number_is = is; no_gap = gap; not_laid = h }
+  look_explains m is gap (BadEntry seq) h = absurd h
+  look_explains m is gap OfTree h = tt
+  look_explains m is gap Device h = tt
+  look_explains m is gap Memory h = tt
 
 -- an entry of the ring was told and not done again
 pub entry_refuses : (fits : List Op → Type 0) (n first i : ℕ) (es : List Entry) (stored : Stored) → told_first (drop i es) ≡ Some stored → stored.seq ≡ first + i
@@ -46,15 +60,29 @@ entry_refuses fits n first i es stored told is before OfTree h = tt
 entry_refuses fits n first i es stored told is before Device h = tt
 entry_refuses fits n first i es stored told is before Memory h = tt
 
-module _ (fits : List Op → Type 0) (number : Tree → ℕ → Type 0) (t : Tree) (fsid bytes : List ℕ) (loads : Loads bytes fsid) (m : ℕ) (is : number t m) (gap : loads.head.seq ≤ m + 1) where
-  pub replay_explains : (f : MountFault) → ((p : List (List ℕ)) → f ≡ Damaged p → ⊥) → RefusesReplay fits m loads.head.seq (readable bytes) f → Explains fits number fsid t bytes f
+-- where it is told it comes after what is found first
+pub entry_late : (fits : List Op → Type 0) (n : ℕ) (stored : Stored) (f : MountFault) → ((p : List (List ℕ)) → f ≡ Damaged p → ⊥) → RefusesEntry fits n stored f → IsFoundFirst f → ⊥
+entry_late fits n stored NoHeader whole h first = h
+entry_late fits n stored (WrongFsid tree found) whole h first = h
+entry_late fits n stored Spent whole h first = h
+entry_late fits n stored BadSeq whole h first = h
+entry_late fits n stored (JournalGap start committed) whole h first = h
+entry_late fits n stored (Damaged path) whole h first = whole path refl
+entry_late fits n stored (BadEntry seq) whole h first = first
+entry_late fits n stored OfTree whole h first = first
+entry_late fits n stored Device whole h first = first
+entry_late fits n stored Memory whole h first = first
+
+module _ (fits : List Op → Type 0) (number : Tree → ℕ → Type 0) (laid : Tree → Type 0) (t : Tree) (fsid bytes : List ℕ) (loads : Loads bytes fsid) (m : ℕ) (is : number t m)
+    (gap : loads.head.seq ≤ m + 1) (may : laid t) where
+  pub replay_explains : (f : MountFault) → ((p : List (List ℕ)) → f ≡ Damaged p → ⊥) → RefusesReplay fits m loads.head.seq (readable bytes) f → Explains fits number laid fsid t bytes f
   replay_explains NoHeader whole h = absurd h
   replay_explains (WrongFsid tree found) whole h = absurd h
   replay_explains Spent whole h = absurd h
   replay_explains BadSeq whole h = absurd h
   replay_explains (JournalGap start committed) whole h = absurd h
-  replay_explains (Damaged path) whole h = whole path refl
-  replay_explains (BadEntry seq) whole h = record { loads = loads; committed = m; number_is = is; no_gap = gap; bad = h }
+  replay_explains (Damaged path) whole h = absurd (whole path refl)
+  replay_explains (BadEntry seq) whole h = record { loads = loads; committed = m; number_is = is; no_gap = gap; is_laid = may; bad = h }
   replay_explains OfTree whole h = tt
   replay_explains Device whole h = tt
   replay_explains Memory whole h = tt
@@ -71,7 +99,7 @@ module _ (fits : List Op → Type 0) (image : Images Tree) (reads : Reads) (numb
       (omega (arith, bad.number, bad.above)) (spelled image reads number laid theory fsid bytes head header m t is o n last s) bad.told in
       bad.spells_none told.0 told.1 (subst fits told.2 (fit_at fits s.txns _ (omega (arith, told.3, bad.number, bad.above)) all))
 
-  pub outside : (f : MountFault) → Explains fits number fsid t bytes f → IsOutside f
+  pub outside : (f : MountFault) → Explains fits number laid fsid t bytes f → IsOutside f
   outside NoHeader h = some_none s.head (sym s.header ∙ h)
   outside (WrongFsid tree found) h =
       h.1.3 (sym h.1.2 ∙ ap (λ (x : Head). x.fsid) (some_head h.1.0 s.head (sym h.1.1 ∙ s.header)) ∙ s.fsid_is)
@@ -80,7 +108,7 @@ module _ (fits : List Op → Type 0) (image : Images Tree) (reads : Reads) (numb
   outside (JournalGap start committed) h =
       let le = no_gap image reads number laid theory fsid bytes h.loads.head h.loads.header committed t h.number_is o n last s in
       absurd (omega (arith, le, h.gap, h.start_is))
-  outside (Damaged path) h = h
+  outside (Damaged path) h = h.not_laid (theory.laid_is _ n n last t s.good)
   outside (BadEntry seq) h = stored_spells h.loads.head h.loads.header h.committed h.number_is seq h.bad
   outside OfTree h = tt
   outside Device h = tt

@@ -24,7 +24,7 @@ IsFoundFirst (WrongFsid tree ring) = Unit {0}
 IsFoundFirst Spent = Unit {0}
 IsFoundFirst BadSeq = Unit {0}
 IsFoundFirst (JournalGap start committed) = Unit {0}
-IsFoundFirst (Damaged path) = ⊥
+IsFoundFirst (Damaged path) = Unit {0}
 IsFoundFirst (BadEntry seq) = ⊥
 IsFoundFirst OfTree = ⊥
 IsFoundFirst Device = ⊥
@@ -57,6 +57,14 @@ pub record IsGap (number : Tree → ℕ → Type 0) (fsid : List ℕ) (t : Tree)
   pub number_is : number t committed
   pub gap : committed + 1 < start
 
+-- such a ring leaves no gap, but no transactions may be done on the tree
+pub record IsDamaged (number : Tree → ℕ → Type 0) (laid : Tree → Type 0) (fsid : List ℕ) (t : Tree) (bytes : List ℕ) : Type 0 where
+  pub loads : Loads bytes fsid
+  pub committed : ℕ
+  pub number_is : number t committed
+  pub no_gap : loads.head.seq ≤ committed + 1
+  pub not_laid : laid t → ⊥
+
 -- Of these entries, the first of which has the number `first`, the one with the number seq is above n and spells no
 -- transaction that can be done, and those before it that are above n do.
 pub record IsBadEntry (fits : List Op → Type 0) (n first : ℕ) (es : List Entry) (seq : ℕ) : Type 0 where
@@ -68,12 +76,14 @@ pub record IsBadEntry (fits : List Op → Type 0) (n first : ℕ) (es : List Ent
   pub spells_none : (ops : List Op) → decoded stored.payload ≡ Ok ops → fits ops → ⊥
   pub before : (txns : List (List Op)) × Spells (drop (n + 1 - first) (take place es)) txns × AreFit fits txns
 
--- of such a ring's entries above the committed number this is the first that spells none that can be done
-pub record HasBadEntry (fits : List Op → Type 0) (number : Tree → ℕ → Type 0) (fsid : List ℕ) (t : Tree) (bytes : List ℕ) (seq : ℕ) : Type 0 where
+-- transactions may be done, but of such a ring's entries above the committed number this is the first that spells none
+-- that can be done
+pub record HasBadEntry (fits : List Op → Type 0) (number : Tree → ℕ → Type 0) (laid : Tree → Type 0) (fsid : List ℕ) (t : Tree) (bytes : List ℕ) (seq : ℕ) : Type 0 where
   pub loads : Loads bytes fsid
   pub committed : ℕ
   pub number_is : number t committed
   pub no_gap : loads.head.seq ≤ committed + 1
+  pub is_laid : laid t
   pub bad : IsBadEntry fits committed loads.head.seq (readable bytes) seq
 
 -- why the bytes have no ring that may be loaded for the fsid
@@ -102,6 +112,19 @@ RefusesNumber number t (JournalGap start committed) = ⊥
 RefusesNumber number t (Damaged path) = ⊥
 RefusesNumber number t (BadEntry seq) = ⊥
 
+-- why no transactions may be done on the tree
+abbrev pub RefusesLook : (Tree → Type 0) → Tree → MountFault → Type 0
+RefusesLook laid t (Damaged path) = laid t → ⊥
+RefusesLook laid t OfTree = Unit {0}
+RefusesLook laid t Memory = Unit {0}
+RefusesLook laid t Device = ⊥
+RefusesLook laid t NoHeader = ⊥
+RefusesLook laid t (WrongFsid tree ring) = ⊥
+RefusesLook laid t Spent = ⊥
+RefusesLook laid t BadSeq = ⊥
+RefusesLook laid t (JournalGap start committed) = ⊥
+RefusesLook laid t (BadEntry seq) = ⊥
+
 -- why an entry was not done again
 abbrev pub RefusesEntry : (List Op → Type 0) → ℕ → Stored → MountFault → Type 0
 RefusesEntry fits n stored (BadEntry seq) = (seq ≡ stored.seq) × (n < stored.seq) × ((ops : List Op) → decoded stored.payload ≡ Ok ops → fits ops → ⊥)
@@ -129,23 +152,24 @@ RefusesReplay fits n first es BadSeq = ⊥
 RefusesReplay fits n first es (JournalGap start committed) = ⊥
 
 -- why the two can't be mounted: just one of these is so, or they can
-abbrev pub Explains : (List Op → Type 0) → (Tree → ℕ → Type 0) → List ℕ → Tree → List ℕ → MountFault → Type 0
-Explains fits number fsid t bytes NoHeader = head_of bytes ≡ None
-Explains fits number fsid t bytes (WrongFsid tree ring) = (tree ≡ fsid) × IsOtherRing bytes fsid ring
-Explains fits number fsid t bytes Spent = IsSpent bytes fsid
-Explains fits number fsid t bytes BadSeq = Loads bytes fsid × ((n : ℕ) → number t n → ⊥)
-Explains fits number fsid t bytes (JournalGap start committed) = IsGap number fsid t bytes start committed
-Explains fits number fsid t bytes (BadEntry seq) = HasBadEntry fits number fsid t bytes seq
-Explains fits number fsid t bytes (Damaged path) = ⊥
-Explains fits number fsid t bytes OfTree = Unit {0}
-Explains fits number fsid t bytes Device = Unit {0}
-Explains fits number fsid t bytes Memory = Unit {0}
+abbrev pub Explains : (List Op → Type 0) → (Tree → ℕ → Type 0) → (Tree → Type 0) → List ℕ → Tree → List ℕ → MountFault → Type 0
+Explains fits number laid fsid t bytes NoHeader = head_of bytes ≡ None
+Explains fits number laid fsid t bytes (WrongFsid tree ring) = (tree ≡ fsid) × IsOtherRing bytes fsid ring
+Explains fits number laid fsid t bytes Spent = IsSpent bytes fsid
+Explains fits number laid fsid t bytes BadSeq = Loads bytes fsid × ((n : ℕ) → number t n → ⊥)
+Explains fits number laid fsid t bytes (JournalGap start committed) = IsGap number fsid t bytes start committed
+Explains fits number laid fsid t bytes (Damaged path) = IsDamaged number laid fsid t bytes
+Explains fits number laid fsid t bytes (BadEntry seq) = HasBadEntry fits number laid fsid t bytes seq
+Explains fits number laid fsid t bytes OfTree = Unit {0}
+Explains fits number laid fsid t bytes Device = Unit {0}
+Explains fits number laid fsid t bytes Memory = Unit {0}
 
 -- they can, with this committed number
-pub record CanMount (fits : List Op → Type 0) (number : Tree → ℕ → Type 0) (fsid : List ℕ) (t : Tree) (bytes : List ℕ) (committed : ℕ) : Type 0 where
+pub record CanMount (fits : List Op → Type 0) (number : Tree → ℕ → Type 0) (laid : Tree → Type 0) (fsid : List ℕ) (t : Tree) (bytes : List ℕ) (committed : ℕ) : Type 0 where
   pub loads : Loads bytes fsid
   pub number_is : number t committed
   pub no_gap : loads.head.seq ≤ committed + 1
+  pub is_laid : laid t
   pub txns : List (List Op)
   pub spelled : Spells (above committed loads.head.seq (readable bytes)) txns
   pub fit : AreFit fits txns

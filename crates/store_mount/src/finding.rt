@@ -8,7 +8,7 @@ ghost use Rattle.dev_api.specs.Run.{KeepsSince};
 ghost use Rattle.ring_frame.specs.Heads.{head_of};
 ghost use Rattle.ring_images.specs.Held.{ReadsSound, Within};
 ghost use Rattle.ring_journal.specs.State.{IsUnspent, Loaded};
-ghost use Rattle.store_mount.specs.Causes.{Explains, IsFoundFirst, RefusesNumber, RefusesRing};
+ghost use Rattle.store_mount.specs.Causes.{Explains, IsFoundFirst, RefusesLook, RefusesNumber, RefusesRing};
 
 use crate::fault::{MountFault, load_fault};
 use dev_api::Device;
@@ -57,7 +57,6 @@ fn committed_number<T: FileTree, S: Side<T>>(
     side: &S,
     tree: &mut T,
 ) -> Result<u64, MountFault>
-    ensures ready { T.tells tree.new → S.ready (S.set side.now) (T.disk tree.old) → S.ready (S.set side.now) (T.disk tree.new) }
     ensures still { T.tells tree.new → Still (T.disk tree.old) (T.disk tree.new) }
     ensures number { T.tells tree.new → IfOk result (λ n. S.number (T.disk tree.old).tree n) }
     ensures small { IfOk result (λ n. n < 2 ^ 63) }
@@ -74,8 +73,22 @@ fn committed_number<T: FileTree, S: Side<T>>(
     }
 }
 
-/// Makes both sides stable, loads the ring and reads the committed number. It changes nothing that reads, and brings no
-/// image on either side.
+// Whether transactions may be done on the tree.
+fn look<T: FileTree, S: Side<T>>(alloc: Global, side: &S, tree: &mut T) -> Result<(), MountFault>
+    ensures laid { T.tells tree.new → OnOk result (S.laid (S.set side.now) (T.disk tree.old).tree) }
+    ensures still { T.tells tree.new → Still (T.disk tree.old) (T.disk tree.new) }
+    ensures refused { T.tells tree.new → IfErr result (RefusesLook (S.laid (S.set side.now)) (T.disk tree.old).tree) }
+    ensures told { T.tells tree.new → T.tells tree.old }
+    ensures faults { (T.disk tree.old).faults ≤ (T.disk tree.new).faults }
+    ensures not_the_device { IsErrOf result MountFault.Device → ⊥ }
+    ensures cause { IsErrOf result MountFault.Tree → Counted (T.disk tree.old).faults (T.disk tree.new).faults }
+{
+    side.look_over(alloc, tree)?;
+    Ok(())
+}
+
+/// Makes both sides stable, loads the ring, reads the committed number and looks over the tree. It changes nothing that
+/// reads, and brings no image on either side.
 pub fn find<T: FileTree, S: Side<T>, D: Device>(
     alloc: Global,
     side: &S,
@@ -83,9 +96,9 @@ pub fn find<T: FileTree, S: Side<T>, D: Device>(
     dev: &mut D,
     fsid: &[u8; 16],
 ) -> Result<Found, MountFault>
-    requires laid { T.tells tree.old → S.laid (S.set side.now) (T.disk tree.old).tree }
     ensures stays { T.tells tree.new → Stays (T.disk tree.old) (T.disk tree.new) }
     ensures settled { T.tells tree.new → OnOk result (Everywhere (T.disk tree.new) (λ t. t ≡ (T.disk tree.old).tree)) }
+    ensures laid { T.tells tree.new → OnOk result (S.laid (S.set side.now) (T.disk tree.old).tree) }
     ensures ready { T.tells tree.new → OnOk result (S.ready (S.set side.now) (T.disk tree.new)) }
     ensures number { T.tells tree.new → IfOk result (λ found. S.number (T.disk tree.old).tree found.committed) }
     ensures small { IfOk result (λ found. found.committed < 2 ^ 63) }
@@ -97,10 +110,10 @@ pub fn find<T: FileTree, S: Side<T>, D: Device>(
     ensures unspent { IfOk result (λ found. IsUnspent found.ring.head) }
     ensures size { IfOk result (λ found. found.ring.head.size ≡ (D.state dev.new).size) }
     ensures no_gap { IfOk result (λ found. found.ring.head.seq ≤ found.committed + 1) }
-    ensures refused { T.tells tree.new → D.tells dev.new → IfErr result (Explains S.fits S.number fsid.now (T.disk tree.old).tree (D.state dev.old).disk.reads) }
+    ensures refused { T.tells tree.new → D.tells dev.new
+        → IfErr result (Explains S.fits S.number (S.laid (S.set side.now)) fsid.now (T.disk tree.old).tree (D.state dev.old).disk.reads) }
     ensures reads { D.tells dev.new → IfErr result (λ fault. IsFoundFirst fault → (D.state dev.new).disk.reads ≡ (D.state dev.old).disk.reads) }
     ensures crash { D.tells dev.new → ReadsSound (D.state dev.old).disk → KeepsSince (Within (D.state dev.old).disk) (D.state dev.old) (D.state dev.new) }
-    ensures undamaged { T.tells tree.new → (p : Path) → result ≢ Err (MountFault.Damaged p) }
     ensures told { T.tells tree.new → T.tells tree.old }
     ensures honest { D.tells dev.new → D.tells dev.old }
     ensures extent { (D.state dev.new).size ≡ (D.state dev.old).size }
@@ -121,6 +134,10 @@ pub fn find<T: FileTree, S: Side<T>, D: Device>(
     let start = ring.start_seq();
     if start > committed + 1 {
         return Err(MountFault::JournalGap { start, committed });
+    }
+    match look(alloc, side, tree) {
+        Ok(()) => {}
+        Err(fault) => return Err(fault),
     }
     Ok(Found { ring, committed })
 }

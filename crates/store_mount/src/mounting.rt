@@ -36,7 +36,8 @@ pub struct Mounted {
     pub numbers: Numbers,
 }
 
-// Does the entries above the committed number again, and begins a new epoch of the ring behind that number.
+// Does the entries above the committed number again, takes away what is left of files that were being built, and begins
+// a new epoch of the ring behind that number.
 fn go_on<T: FileTree, S: Side<T>, D: Device>(
     alloc: Global,
     side: &S,
@@ -68,9 +69,11 @@ fn go_on<T: FileTree, S: Side<T>, D: Device>(
     ensures counts { OnOk result ((last : ℕ) → last + 1 ≡ ring.new.head.seq + ring.new.count → Fits (record { journalled = last; committed = committed }) ring.new) }
     ensures holds { D.tells dev.new → OnOk result (Holds ring.new (D.state dev.new).disk) }
     ensures size { OnOk result (ring.new.head.size ≡ ring.old.head.size) }
+    ensures fsid { OnOk result (ring.new.head.fsid ≡ ring.old.head.fsid) }
     ensures ready { T.tells tree.new → OnOk result (S.ready (S.set side.now) (T.disk tree.new)) }
     ensures refused { D.tells dev.new → IfErr result (RefusesReplay S.fits committed ring.old.head.seq (synced (D.state dev.old).disk)) }
-    ensures late { IfErr result (λ fault. IsFoundFirst fault → ⊥) }
+    ensures late { T.tells tree.new → IfErr result (λ fault. IsFoundFirst fault → ⊥) }
+    ensures device_stays { D.tells dev.new → IfErr result (λ fault. IsFoundFirst fault → (D.state dev.new).disk ≡ (D.state dev.old).disk) }
     ensures undamaged { T.tells tree.new → (p : Path) → result ≢ Err (MountFault.Damaged p) }
     ensures told { T.tells tree.new → T.tells tree.old }
     ensures honest { D.tells dev.new → D.tells dev.old }
@@ -84,12 +87,14 @@ fn go_on<T: FileTree, S: Side<T>, D: Device>(
         Ok(()) => {}
         Err(fault) => return Err(fault),
     }
+    side.tidy(alloc, tree)?;
     reopen(ring, dev, committed)?;
     Ok(())
 }
 
-/// Mounts what a crash or a close has left: does again what the journal has above the tree's committed number, and begins
-/// a new epoch of the journal behind that number.
+/// Mounts what a crash or a close has left: looks over the tree, does again what the journal has above the tree's
+/// committed number, takes away what is left of files that were being built, and begins a new epoch of the journal behind
+/// that number.
 ///
 /// Where what reads at entry stands for some objects, the mounted store holds these. At every exit each pair of what a
 /// crash may leave stands for whatever some pair of before stood for.
@@ -100,7 +105,6 @@ pub fn mount<T: FileTree, S: Side<T>, D: Device>(
     dev: &mut D,
     fsid: &[u8; 16],
 ) -> Result<Mounted, MountFault>
-    requires laid { T.tells tree.old → S.laid (S.set side.now) (T.disk tree.old).tree }
     ensures done { T.tells tree.new → D.tells dev.new → (o : Objects) (n last : ℕ)
         → StandsNow (S.image (S.set side.now)) fsid.now (T.disk tree.old) (D.state dev.old).disk o n last
         → IfOk result (λ mounted. MountedAs (S.image (S.set side.now)) (S.reads (S.set side.now)) fsid.now o n last mounted (T.disk tree.new) (D.state dev.new).disk) }
@@ -120,10 +124,12 @@ pub fn mount<T: FileTree, S: Side<T>, D: Device>(
     ensures ready { T.tells tree.new → OnOk result (S.ready (S.set side.now) (T.disk tree.new)) }
     ensures holds { D.tells dev.new → IfOk result (λ mounted. Holds mounted.ring (D.state dev.new).disk) }
     ensures size { IfOk result (λ mounted. mounted.ring.head.size ≡ (D.state dev.new).size) }
+    ensures fsid { IfOk result (λ mounted. mounted.ring.head.fsid ≡ fsid.now) }
     ensures can { T.tells tree.new → D.tells dev.new
-        → IfOk result (λ mounted. CanMount S.fits S.number fsid.now (T.disk tree.old).tree (D.state dev.old).disk.reads mounted.numbers.committed) }
+        → IfOk result (λ mounted. CanMount S.fits S.number (S.laid (S.set side.now)) fsid.now
+        (T.disk tree.old).tree (D.state dev.old).disk.reads mounted.numbers.committed) }
     ensures refused { T.tells tree.new → D.tells dev.new
-        → IfErr result (Explains S.fits S.number fsid.now (T.disk tree.old).tree (D.state dev.old).disk.reads) }
+        → IfErr result (Explains S.fits S.number (S.laid (S.set side.now)) fsid.now (T.disk tree.old).tree (D.state dev.old).disk.reads) }
     ensures only { T.tells tree.new → D.tells dev.new → (o : Objects) (n last : ℕ)
         → (s : StandsNow (S.image (S.set side.now)) fsid.now (T.disk tree.old) (D.state dev.old).disk o n last) → AreFit S.fits s.txns
         → IsUnspentImage (D.state dev.old).disk.reads → IfErr result IsOutside }
@@ -131,7 +137,6 @@ pub fn mount<T: FileTree, S: Side<T>, D: Device>(
     ensures device_reads { D.tells dev.new → IfErr result (λ fault. IsFoundFirst fault → (D.state dev.new).disk.reads ≡ (D.state dev.old).disk.reads) }
     ensures no_image { D.tells dev.new → ReadsSound (D.state dev.old).disk
         → IfErr result (λ fault. IsFoundFirst fault → Within (D.state dev.old).disk (D.state dev.new).disk) }
-    ensures undamaged { T.tells tree.new → (p : Path) → result ≢ Err (MountFault.Damaged p) }
     ensures told { T.tells tree.new → T.tells tree.old }
     ensures honest { D.tells dev.new → D.tells dev.old }
     ensures extent { (D.state dev.new).size ≡ (D.state dev.old).size }

@@ -86,7 +86,7 @@ pub fn replay<T: FileTree, S: Side<T>, D: Device>(
     ensures disk { D.tells dev.new → (D.state dev.new).disk ≡ (D.state dev.old).disk }
     ensures past { D.tells dev.new → (D.state dev.new).past ≡ (D.state dev.old).past }
     ensures refused { D.tells dev.new → IfErr result (RefusesReplay S.fits committed ring.old.head.seq (synced (D.state dev.old).disk)) }
-    ensures late { IfErr result (λ fault. IsFoundFirst fault → ⊥) }
+    ensures late { T.tells tree.new → IfErr result (λ fault. IsFoundFirst fault → ⊥) }
     ensures undamaged { T.tells tree.new → (p : Path) → result ≢ Err (MountFault.Damaged p) }
     ensures told { T.tells tree.new → T.tells tree.old }
     ensures honest { D.tells dev.new → D.tells dev.old }

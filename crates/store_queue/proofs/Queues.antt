@@ -1,5 +1,5 @@
 -- Transactions that wait, and one more behind them.
-use Rattle.std.proofs.Common.{◌≡◌, ◌≢◌, ◌⊎◌, inl, inr, ℕ, zero, suc, ◌+◌, ◌<◌, ◌≤◌, ◌^◌, Bool, true, false, cond, Option, None, Some, List, [], ◌∷◌, ◌++◌, length, drop, get_or, map, Ok, refl, sym, ◌∙◌, ap, subst, arith}
+use Rattle.std.proofs.Common.{◌≡◌, ◌≢◌, ◌⊎◌, inl, inr, ℕ, zero, suc, ◌+◌, ◌<◌, ◌≤◌, ◌^◌, Bool, true, false, cond, Option, None, Some, List, [], ◌∷◌, ◌++◌, length, drop, get_or, refl, sym, ◌∙◌, ap, subst, arith}
 use Rattle.std.specs.Prelude.{nat_lt, nat_le, ◌||◌}
 use Rattle.std.proofs.lemmas.Bool.{ltb-false, leb-false}
 use Rattle.std.proofs.lemmas.List.{map-append, length-map, length-append}
@@ -15,8 +15,8 @@ use Rattle.fs_script.specs.declared.answer.Answer.TheVariants as answers
 use Rattle.fs_session.specs.Answers.{refused_or, built_or, answer_for}
 use Rattle.fs_session.specs.Room.{last_number, payload_len, queue_limit, room_for}
 use Rattle.store_turns.specs.declared.numbers.Queued.{Queued}
-use Rattle.store_turns.specs.Waiting.{IsAt, AllMeet, AllFit}
-use Rattle.store_queue.specs.Waiting.{Waiting, none_waiting, with_txn, txns_of, IsSpelled, IsQueue}
+use Rattle.store_turns.specs.Waiting.{IsAt}
+use Rattle.store_queue.specs.Waiting.{Waiting, with_txn, txns_of, IsSpelled, IsQueue}
 
 -- places
 
@@ -149,4 +149,4 @@ more_waits colls after ws new q last seq size turned are is =
     is
     ∙ ap (λ (c : CollSet). record { colls = c; txns = txns_of new; last = seq; size = size }) turned
     ∙ ap (λ (l : List Txn). record { colls = colls_after colls q.txn.ops; txns = l; last = seq; size = size })
-      (ap txns_of are ∙ map-append (λ (w : Queued). w.txn) ws (q ∷ []))
+    (ap txns_of are ∙ map-append (λ (w : Queued). w.txn) ws (q ∷ []))

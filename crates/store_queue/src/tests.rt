@@ -121,11 +121,35 @@ fn refused(why: Why) -> QueueFault {
 #[test]
 fn a_transaction_is_refused_by_its_check(rt: HostRuntime) {
     let alloc = rt.alloc();
-    assert!(rt; is_refused(alloc, one(alloc, touch(alloc, 9)), refused(Why::NoCollection)));
+    assert!(rt;
+        is_refused(
+            alloc,
+            one(alloc, touch(alloc, 9)),
+            refused(Why::NoCollection)
+        )
+    );
     assert!(rt; is_refused(alloc, Ok(Vec::new(alloc)), refused(Why::Empty)));
-    assert!(rt; is_refused(alloc, one(alloc, Ok(make(0))), refused(Why::CollectionExists)));
-    assert!(rt; is_refused(alloc, one(alloc, clone_to(alloc, "a")), refused(Why::SameObject)));
-    assert!(rt; is_refused(alloc, one(alloc, truncate(alloc, 16_777_217)), refused(Why::TooBig)));
+    assert!(rt;
+        is_refused(
+            alloc,
+            one(alloc, Ok(make(0))),
+            refused(Why::CollectionExists)
+        )
+    );
+    assert!(rt;
+        is_refused(
+            alloc,
+            one(alloc, clone_to(alloc, "a")),
+            refused(Why::SameObject)
+        )
+    );
+    assert!(rt;
+        is_refused(
+            alloc,
+            one(alloc, truncate(alloc, 16_777_217)),
+            refused(Why::TooBig)
+        )
+    );
 }
 
 #[test]
@@ -135,8 +159,20 @@ fn a_transaction_is_refused_that_is_accepted(rt: HostRuntime) {
         need: 20_480,
         size: RING,
     };
-    assert!(rt; is_refused(alloc, one(alloc, clone_to(alloc, "b")), QueueFault::NotBuilt { op: 0 }));
-    assert!(rt; is_refused(alloc, touch_and_clone(alloc), QueueFault::NotBuilt { op: 1 }));
+    assert!(rt;
+        is_refused(
+            alloc,
+            one(alloc, clone_to(alloc, "b")),
+            QueueFault::NotBuilt { op: 0 }
+        )
+    );
+    assert!(rt;
+        is_refused(
+            alloc,
+            touch_and_clone(alloc),
+            QueueFault::NotBuilt { op: 1 }
+        )
+    );
     assert!(rt; is_refused(alloc, one(alloc, write_filled(alloc, 16_384)), large));
 }
 

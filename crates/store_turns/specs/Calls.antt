@@ -36,3 +36,7 @@ IsCommitting image h n m t = image h n n m t ⊎ (image h n m m t ⊎ image h m 
 abbrev pub WhereReplayed : Images Tree → Reads → ℕ → ℕ → List ℕ → Files → (History → ℕ → Type 0) → Type 0
 WhereReplayed image reads committed seq payload old P = (h : History) (hi : ℕ) (ops : List Op) → seq ≤ hi → end_of h ≤ hi → decoded payload ≡ Ok ops
     → IsTxn h seq ops → Everywhere old (image h committed committed hi) → reads Replay h (seq - 1) old.tree → P h hi
+
+-- each part of the tree is past the transactions up to lo and past none above hi, and the committed number is n
+abbrev pub WhereImages : Images Tree → Files → (History → ℕ → ℕ → ℕ → Type 0) → Type 0
+WhereImages image old P = (h : History) (n lo hi : ℕ) → Everywhere old (image h n lo hi) → P h n lo hi

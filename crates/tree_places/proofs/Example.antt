@@ -1,5 +1,5 @@
 -- The tree of a store that was just made.
-use Rattle.std.proofs.Common.{◌≡◌, ℕ, ◌<◌, ◌^◌, inl, inr, ⊎_elim, Bool, true, false, cond, List, codes, refl, sym, ◌∙◌, ap, Option, Some, None}
+use Rattle.std.proofs.Common.{◌≡◌, ℕ, ◌<◌, ◌^◌, inl, inr, ⊎_elim, Bool, true, false, cond, List, [], ◌∷◌, ◌++◌, codes, length, arith, refl, sym, ◌∙◌, ap, Option, Some, None}
 use Rattle.std.proofs.lemmas.Bool.{cases_Bool}
 use Rattle.std.proofs.lemmas.Slice.Eq.{bytes_eq-Decides}
 use Rattle.std.specs.Option.{option_map}
@@ -10,12 +10,13 @@ use Rattle.fs_names.specs.declared.settings.Settings.{Settings}
 use Rattle.fs_names.specs.Reading.{OidFits, CollFits, coll_of, pg_of, pg_from}
 use Rattle.fs_names.specs.Text.{coll_text}
 use Rattle.fs_names.proofs.CollLaw.{coll_texts_are_read}
-use Rattle.tree_api.specs.Tree.{held}
+use Rattle.tree_api.specs.Tree.{Path, current, held}
 use Rattle.lfn_index.specs.Maps.{Map, IsMap}
 use Rattle.tree_stands.specs.Trees.{dir_of, guard_of}
 use Rattle.commit_point.specs.Number.{number_file, HasNumber}
+use Rattle.op_effects.specs.Clear.{IsClear, IsShallow}
 use Rattle.op_effects.specs.Collections.{IsGone}
-use Rattle.tree_places.specs.Example.{made_in, made_tree}
+use Rattle.tree_places.specs.Example.{made_at, made_in, made_tree}
 use Rattle.tree_places.specs.Images.{IsOwn}
 
 pg_none : (a b : Option ℕ) → pg_from a b None ≡ None
@@ -79,10 +80,27 @@ module _ (set : Settings) (n : ℕ) where
   pub number : n < 2 ^ 63 → HasNumber (made_tree n) n
   number small = record { file = number_file n; stands = refl; kind = refl; bytes = refl; small = small }
 
+  -- nothing stands below what stands in `current`
+  shallow : (step : List ℕ) → IsShallow (current ++ step ∷ []) (made_tree n)
+  shallow step q is = none_below is.0 is.2 (is.3.0, ap made_at (sym is.1) ∙ is.3.1)
+    where
+      none_below : (rest : Path) → length rest ≡ 9 → (k : ℕ) × (made_at (codes "current" ∷ step ∷ rest) ≡ Some k) → ⊥
+      none_below [] nine at = absurd (omega (arith, nine))
+      none_below (x ∷ rest) nine at = none_or at.0 at.1
+
+  clear : IsClear (made_tree n)
+  clear = record {
+    free = λ c fits is. none_or is.0 (sym (not_there c fits) ∙ is.1);
+    flat = λ c fits step. inl refl;
+    colls = λ c fits. shallow (coll_text c);
+    trees = λ step q is. none_or is.3.0 (ap made_at (sym is.1) ∙ is.3.1);
+  }
+
   pub own : IsOwn (made_tree n)
   own = record {
     building = (2, refl, refl);
     places = λ step. inl refl;
     removed = (3, refl, refl);
     target = inr (4, refl, refl);
+    clear = clear;
   }

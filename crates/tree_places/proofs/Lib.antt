@@ -1,4 +1,5 @@
 pub mod Flat
+pub mod Fit
 pub mod Histories
 pub mod Theory
 pub mod Ready

@@ -13,6 +13,7 @@ use Rattle.op_places.proofs.Makes as colls
 use Rattle.op_places.proofs.Fresh.{past_none}
 use Rattle.tree_places.specs.Line.{ops_of, ops_to, count_to, At}
 use Rattle.tree_places.specs.Laws.{HistoryLaw, ComesNext, EditLaw, CollLaw}
+use Rattle.tree_places.proofs.Fit.{can_longer, can_none, none_copy}
 use Rattle.tree_places.proofs.Flat.{op_place, count_next, allowed_flat}
 use Rattle.tree_places.proofs.Histories.{plain_to, count_grows, wider, back, longer}
 
@@ -67,12 +68,18 @@ history_law = record {
   plain = λ h all built. record { allowed = allowed_flat h.origin h.txns all; built = built };
   wider = wider;
   back = back;
-  longer = λ set h ops n lo hi t allowed built order known is.
-      record { base = is.base; number = is.number; own = is.own; past = longer set h ops lo hi t allowed built order known is.past };
+  longer = λ set h ops n lo hi t allowed can order known is. record {
+    base = is.base;
+    number = is.number;
+    own = is.own;
+    fit = can_longer h ops is.fit can;
+    past = longer set h ops lo hi t allowed (none_copy ops can.each) order known is.past;
+  };
   begins = λ set n t number own gone. record {
     base = omega arith;
     number = number;
     own = own;
+    fit = can_none n fin.empty;
     past = record { plain = record { allowed = tt; built = tt }; past = subst (λ (k : ℕ). PastOps set fin.empty (ops_to (replay_of n fin.empty []) n) k t) (none_done n) (subst (λ (l : List Op). PastOps set fin.empty l 0 t) (no_ops n) (past_none set t gone)) };
   };
 }

@@ -7,13 +7,14 @@ use Rattle.fs_model.specs.Objects.{Objects}
 use Rattle.tree_api.specs.Tree.{Version, Tree}
 use Rattle.commit_point.specs.Number.{spelled, HasNumber}
 use Rattle.commit_point.proofs.Digits.{eight, spelled_bytes, number_back}
-use Rattle.store_history.specs.History.{replay_of}
+use Rattle.store_history.specs.History.{at, replay_of}
 use Rattle.store_history.specs.Images.{ImageLaws}
 use Rattle.op_places.specs.Places.{PastOps}
 use Rattle.op_places.proofs.Moving.{past_once}
 use Rattle.tree_places.specs.Line.{ops_of, ops_to, count_to, Past}
 use Rattle.tree_places.specs.Images.{Image}
 use Rattle.tree_places.specs.Laws.{TheoryLaw}
+use Rattle.tree_places.proofs.Fit.{can_part}
 use Rattle.tree_places.proofs.Flat.{fold_flat}
 use Rattle.tree_places.proofs.Histories.{wider, rebased}
 
@@ -50,8 +51,8 @@ module _ (set : Settings) (n : ℕ) (before : Objects) (txns : List (List Op)) (
 
 laws : (set : Settings) → ImageLaws (Image set)
 laws set = record {
-  more = λ h n lo hi t room is. record { base = is.base; number = is.number; own = is.own; past = wider set h (count_to h lo) hi (hi + 1) t (omega arith) is.past };
-  rebase = λ h n lo hi end t base within order to known is. record { base = omega arith; number = is.number; own = is.own; past = rebased set h n lo hi end t base within order to is.past };
+  more = λ h n lo hi t room is. record { base = is.base; number = is.number; own = is.own; fit = is.fit; past = wider set h (count_to h lo) hi (hi + 1) t (omega arith) is.past };
+  rebase = λ h n lo hi end t base within order to known is. record { base = omega arith; number = is.number; own = is.own; fit = can_part h n end (at h n) is.fit; past = rebased set h n lo hi end t base within order to is.past };
   once = λ n before before2 txns t one two.
       sym (fold_flat before txns)
       ∙ past_once set before before2 (ops_of txns) t one.past.plain two.past.plain (whole_line set n before txns t one.past) (whole_line set n before2 txns t two.past)
@@ -62,7 +63,7 @@ laws set = record {
 pub theory_law : TheoryLaw
 theory_law set = record {
   laws = laws set;
-  whole = λ h n lo m t le is past. record { base = omega (arith, is.base, le); number = is.number; own = is.own; past = past };
+  whole = λ h n lo m t le is past. record { base = omega (arith, is.base, le); number = is.number; own = is.own; fit = is.fit; past = past };
   begins = λ n before txns t is. is.past;
   ends = λ h t past. past;
   number_is = λ h n lo hi t is. is.number;

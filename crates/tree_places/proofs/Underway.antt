@@ -23,13 +23,14 @@ use Rattle.tree_stands.proofs.Trees.{maps, maps_are}
 use Rattle.store_history.specs.History.{History, end_of}
 use Rattle.store_turns.specs.declared.numbers.How.{How}
 use Rattle.store_turns.specs.declared.numbers.How.TheVariants.{Live, Replay}
-use Rattle.op_effects.specs.Ready.{HasColls, OffStays, KeepsPlaces}
+use Rattle.op_effects.specs.Clear.{KeepsClear, KeepsFree}
+use Rattle.op_effects.specs.Ready.{HasColls, OffStays}
 use Rattle.op_effects.specs.Collections.{Makes, Drops}
 use Rattle.op_places.specs.Laws.{EditsOne}
 use Rattle.op_places.specs.Places.{is_there}
 use Rattle.op_places.proofs.Colls.{none_or}
 use Rattle.tree_places.specs.Line.{ops_to, count_to, At}
-use Rattle.tree_places.specs.Images.{Image, reads}
+use Rattle.tree_places.specs.Images.{AllCan, Image, reads}
 use Rattle.tree_places.specs.Laws.{ComesNext}
 use Rattle.tree_places.specs.Own.{OwnStays}
 use Rattle.tree_places.specs.Underway.{last_of, IsTurn, Underway, OwnIs}
@@ -44,22 +45,24 @@ both_keep P Q R old new one two f = record {
   before = λ t c le left. ⊎_elim (λ was. inl was) (λ p. ⊎_elim (λ was. inl was) (λ q. inr (f c p q)) (two.before t c le left)) (one.before t c le left);
 }
 
--- what is the store's own stays where a step keeps it
+-- what is the store's own stays where a step keeps it,
 module _ (set : Settings) (h : History) (n lo hi : ℕ) (old new : Disk) (images : Everywhere old (Image set h n lo hi)) where
-  pub own_keeps : Moves OwnStays old new → Keeps (OwnIs n) old new
-  own_keeps moves = weaker (From old OwnStays) (OwnIs n) old new moves (λ f from.
-      let is = images from.0 from.1 in
-      own_law.stays from.0 f n from.2 is.own is.number)
-
-  -- and where it is told apart of directories and of what is built
-  pub own_keeps_off : (c : Coll) → Moves (OffStays (dir_of c)) old new → Moves KeepsPlaces old new → Keeps (OwnIs n) old new
-  own_keeps_off c off places = both_keep (From old (OffStays (dir_of c))) (From old KeepsPlaces) (OwnIs n) old new off places (λ f one two.
+  -- with that nothing comes in the way told apart
+  pub own_keeps : (R : Tree → Tree → Type 0) → ((e f : Tree) → KeepsClear e f → R e f → OwnStays e f) → Moves R old new → Moves KeepsClear old new → Keeps (OwnIs n) old new
+  own_keeps R stays moves clear = both_keep (From old R) (From old KeepsClear) (OwnIs n) old new moves clear (λ f one two.
       let is = images one.0 one.1 in
-      own_dirs c one.0 f n one.2 is.own is.number (λ step. two.2 step ((images two.0 two.1).own.places step)))
+      let clear_then = two.2 (images two.0 two.1).own.clear in
+      own_law.stays one.0 f n (stays one.0 f (λ was. clear_then) one.2) is.own is.number)
+
+  -- or that no directory does
+  pub own_keeps_off : (c : Coll) → Moves (OffStays (dir_of c)) old new → Moves KeepsFree old new → Keeps (OwnIs n) old new
+  own_keeps_off c off free = both_keep (From old (OffStays (dir_of c))) (From old KeepsFree) (OwnIs n) old new off free (λ f one two.
+      let is = images one.0 one.1 in
+      own_dirs c one.0 two.0 f n one.2 two.2 is.own (images two.0 two.1).own is.number)
 
   -- so images stay, where their places do
-  pub image_keeps : h.base ≤ lo → Keeps (At set h (count_to h lo) hi) old new → Keeps (OwnIs n) old new → Keeps (Image set h n lo hi) old new
-  image_keeps base places own = both_keep (At set h (count_to h lo) hi) (OwnIs n) (Image set h n lo hi) old new places own (λ t is mine. record { base = base; number = mine.1; own = mine.0; past = is })
+  pub image_keeps : h.base ≤ lo → AllCan h → Keeps (At set h (count_to h lo) hi) old new → Keeps (OwnIs n) old new → Keeps (Image set h n lo hi) old new
+  image_keeps base fit places own = both_keep (At set h (count_to h lo) hi) (OwnIs n) (Image set h n lo hi) old new places own (λ t is mine. record { base = base; number = mine.1; own = mine.0; fit = fit; past = is })
 
 module _ (set : Settings) (how : How) (h : History) (n lo hi seq : ℕ) (ops : List Op) (turn : IsTurn how h lo hi seq ops) where
   abbrev pub Now : ℕ → Disk → Disk → Type 0
@@ -99,6 +102,9 @@ module _ (set : Settings) (how : How) (h : History) (n lo hi seq : ℕ) (ops : L
   module _ (i : ℕ) (op : Op) (here : slice_get ops i ≡ Some op) (entry old : Disk) (sound : Sound old) (is : Now i entry old) where
     base : h.base ≤ lo
     base = (is.images old.tree sound.now).base
+
+    fit : AllCan h
+    fit = (is.images old.tree sound.now).fit
 
     is_known : seq ≤ end_of h
     is_known = ⊎_elim
@@ -155,7 +161,7 @@ module _ (set : Settings) (how : How) (h : History) (n lo hi seq : ℕ) (ops : L
         edit_keeps : Keeps (Image set h n lo hi) old new
         edit_keeps =
             let M = maps set old.tree is.reads.past.whole in
-            image_keeps set h n lo hi old new is.images base
+            image_keeps set h n lo hi old new is.images base fit
             (weaker (From old (ForObject set o (Paired (content (M o.coll) old.tree o.oid) (F (content (M o.coll) old.tree o.oid))))) (At set h (count_to h lo) hi) old new
             (crash M (maps_are set old.tree is.reads.past.whole)) (λ f from.
             edit_law.keeps set h hi (count_to h (seq - 1) + i) op o row F old.tree image_next one (count_to h lo) lower M (maps_are set old.tree is.reads.past.whole)
@@ -171,7 +177,7 @@ module _ (set : Settings) (how : How) (h : History) (n lo hi seq : ℕ) (ops : L
       -- a collection is made
       module _ (c : Coll) (fits : CollFits c) (makes : op ≡ MkColl c) (moves : Moves (Makes set c) old new) (own : Keeps (OwnIs n) old new) where
         make_keeps : Keeps (Image set h n lo hi) old new
-        make_keeps = image_keeps set h n lo hi old new is.images base
+        make_keeps = image_keeps set h n lo hi old new is.images base fit
             (weaker (From old (Makes set c)) (At set h (count_to h lo) hi) old new moves (λ f from.
             coll_law.makes set h hi (count_to h (seq - 1) + i) c fits (place_in hi turn.high ∙ ap Some makes) (count_to h lo) lower from.0 f (is.images from.0 from.1).past from.2))
             own
@@ -186,7 +192,7 @@ module _ (set : Settings) (how : How) (h : History) (n lo hi seq : ℕ) (ops : L
       -- a collection is taken away
       module _ (c : Coll) (takes : op ≡ RmColl c) (moves : Moves (Drops set c) old new) (own : Keeps (OwnIs n) old new) where
         drop_keeps : Keeps (Image set h n lo hi) old new
-        drop_keeps = image_keeps set h n lo hi old new is.images base
+        drop_keeps = image_keeps set h n lo hi old new is.images base fit
             (weaker (From old (Drops set c)) (At set h (count_to h lo) hi) old new moves (λ f from.
             coll_law.drops set h hi (count_to h (seq - 1) + i) c (place_in hi turn.high ∙ ap Some takes) (count_to h lo) lower from.0 f (is.images from.0 from.1).past from.2))
             own

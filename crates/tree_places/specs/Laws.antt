@@ -7,6 +7,7 @@ use Rattle.fs_names.specs.Reading.{CollFits}
 use Rattle.fs_model.specs.declared.op.Op.{Op}
 use Rattle.fs_model.specs.declared.op.Op.TheVariants.{MkColl, RmColl}
 use Rattle.fs_model.specs.Named.{colls_named, made}
+use Rattle.built_ops.specs.Built.{CanDo}
 use Rattle.tree_api.specs.Tree.{Version, Tree}
 use Rattle.lfn_index.specs.Maps.{content}
 use Rattle.fs_cells.specs.declared.cell.Part.{Part}
@@ -44,7 +45,7 @@ pub record HistoryLaw : Type 0 where
   pub wider : (set : Settings) (h : History) (k hi hi2 : ℕ) (t : Tree) → hi ≤ hi2 → At set h k hi t → At set h k hi2 t
   pub back : (set : Settings) (h : History) (k l hi : ℕ) (t : Tree) → l ≤ k → At set h k hi t → At set h l hi t
   -- a history may get one more
-  pub longer : (set : Settings) (h : History) (ops : List Op) (n lo hi : ℕ) (t : Tree) → AreAllowed (at h (end_of h)) ops → NoneCopies ops
+  pub longer : (set : Settings) (h : History) (ops : List Op) (n lo hi : ℕ) (t : Tree) → AreAllowed (at h (end_of h)) ops → CanDo ops
       → lo ≤ hi → hi ≤ end_of h → Image set h n lo hi t → Image set (with_txn h ops) n lo hi t
   -- a tree without collections has done none of a store's first transactions
   pub begins : (set : Settings) (n : ℕ) (t : Tree) → HasNumber t n → IsOwn t → ((c : Coll) → CollFits c → IsGone set c t)

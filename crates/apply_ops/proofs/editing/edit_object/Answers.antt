@@ -1,10 +1,10 @@
 -- Each arm speaks of the object that its operation names.
-use Rattle.std.proofs.Common.{ℕ, List, ap, refl, subst}
+use Rattle.std.proofs.Common.{◌≡◌, ℕ, List, OnOk, ap, refl, subst}
 use Rattle.fs_names.specs.Text.{oid_text}
 use Rattle.fs_model.specs.declared.pair.Pair.{Pair}
 use Rattle.tree_stands.specs.Files.{written_file, attrs_file, attr_gone_file}
 use Rattle.tree_stands.specs.Standing.{ObjectCrash}
-use Rattle.tree_stands.specs.Trees.{name_at}
+use Rattle.tree_stands.specs.Trees.{name_at, ForObject}
 use Rattle.apply_ops.specs.Editing.{edited}
 use Rattle.apply_ops.proofs.Rows.{on_its_name}
 use Rattle.apply_ops.proofs.editing.edit_object.Goals as goal
@@ -72,3 +72,43 @@ pub returns-in-RmAttrs-clause-crash : goal.returns-in-RmAttrs-clause-crash
 returns-in-RmAttrs-clause-crash g c = λ tells n is.
     on_its_name c.args.op.now _ (name_at c.in-RmAttrs.c c.in-RmAttrs.o) n c.in-RmAttrs.is refl is (λ m F. ObjectCrash c.args.set.now m F (g.T.FileTree.disk c.args.tree.now) (g.T.FileTree.disk c.rm_attrs.new.tree))
     (c.rm_attrs.ensures.crash tells)
+
+pub returns-in-Touch-clause-done : goal.returns-in-Touch-clause-done
+returns-in-Touch-clause-done g c = λ tells n is.
+    on_its_name c.args.op.now _ (name_at c.in-Touch.c c.in-Touch.o) n c.in-Touch.is refl is (λ m F. OnOk c.touch.result (ForObject c.args.set.now m (λ x y. y ≡ F x) (g.T.FileTree.disk c.args.tree.now).tree (g.T.FileTree.disk c.touch.new.tree).tree))
+    (c.touch.ensures.done tells)
+
+pub returns-in-Write-clause-done : goal.returns-in-Write-clause-done
+returns-in-Write-clause-done g c = λ tells n is.
+    on_its_name c.args.op.now _ (name_at c.in-Write.c c.in-Write.o) n c.in-Write.is refl is (λ m F. OnOk c.write.result (ForObject c.args.set.now m (λ x y. y ≡ F x) (g.T.FileTree.disk c.args.tree.now).tree (g.T.FileTree.disk c.write.new.tree).tree))
+    (subst (λ (b : List ℕ). OnOk c.write.result (ForObject c.args.set.now (name_at c.in-Write.c c.in-Write.o) (λ x y. y ≡ written_file (oid_text c.in-Write.o) c.in-Write.at b x) (g.T.FileTree.disk c.args.tree.now).tree (g.T.FileTree.disk c.write.new.tree).tree)) c.slice.ensures (c.write.ensures.done tells))
+
+pub returns-in-Zero-clause-done : goal.returns-in-Zero-clause-done
+returns-in-Zero-clause-done g c = λ tells n is.
+    on_its_name c.args.op.now _ (name_at c.in-Zero.c c.in-Zero.o) n c.in-Zero.is refl is (λ m F. OnOk c.zero.result (ForObject c.args.set.now m (λ x y. y ≡ F x) (g.T.FileTree.disk c.args.tree.now).tree (g.T.FileTree.disk c.zero.new.tree).tree))
+    (c.zero.ensures.done tells)
+
+pub returns-in-Truncate-clause-done : goal.returns-in-Truncate-clause-done
+returns-in-Truncate-clause-done g c = λ tells n is.
+    on_its_name c.args.op.now _ (name_at c.in-Truncate.c c.in-Truncate.o) n c.in-Truncate.is refl is (λ m F. OnOk c.truncate.result (ForObject c.args.set.now m (λ x y. y ≡ F x) (g.T.FileTree.disk c.args.tree.now).tree (g.T.FileTree.disk c.truncate.new.tree).tree))
+    (c.truncate.ensures.done tells)
+
+pub returns-in-Remove-clause-done : goal.returns-in-Remove-clause-done
+returns-in-Remove-clause-done g c = λ tells n is.
+    on_its_name c.args.op.now _ (name_at c.in-Remove.c c.in-Remove.o) n c.in-Remove.is refl is (λ m F. OnOk c.remove.result (ForObject c.args.set.now m (λ x y. y ≡ F x) (g.T.FileTree.disk c.args.tree.now).tree (g.T.FileTree.disk c.remove.new.tree).tree))
+    (c.remove.ensures.done tells)
+
+pub returns-in-SetAttrs-clause-done : goal.returns-in-SetAttrs-clause-done
+returns-in-SetAttrs-clause-done g c = λ tells n is.
+    on_its_name c.args.op.now _ (name_at c.in-SetAttrs.c c.in-SetAttrs.o) n c.in-SetAttrs.is refl is (λ m F. OnOk c.set_attrs.result (ForObject c.args.set.now m (λ x y. y ≡ F x) (g.T.FileTree.disk c.args.tree.now).tree (g.T.FileTree.disk c.set_attrs.new.tree).tree))
+    (subst (λ (b : List Pair). OnOk c.set_attrs.result (ForObject c.args.set.now (name_at c.in-SetAttrs.c c.in-SetAttrs.o) (λ x y. y ≡ attrs_file (oid_text c.in-SetAttrs.o) b x) (g.T.FileTree.disk c.args.tree.now).tree (g.T.FileTree.disk c.set_attrs.new.tree).tree)) c.slice-in-SetAttrs.ensures (c.set_attrs.ensures.done tells))
+
+pub returns-in-RmAttr-clause-done : goal.returns-in-RmAttr-clause-done
+returns-in-RmAttr-clause-done g c = λ tells n is.
+    on_its_name c.args.op.now _ (name_at c.in-RmAttr.c c.in-RmAttr.o) n c.in-RmAttr.is refl is (λ m F. OnOk c.rm_attr.result (ForObject c.args.set.now m (λ x y. y ≡ F x) (g.T.FileTree.disk c.args.tree.now).tree (g.T.FileTree.disk c.rm_attr.new.tree).tree))
+    (subst (λ (b : List ℕ). OnOk c.rm_attr.result (ForObject c.args.set.now (name_at c.in-RmAttr.c c.in-RmAttr.o) (λ x y. y ≡ attr_gone_file (oid_text c.in-RmAttr.o) b x) (g.T.FileTree.disk c.args.tree.now).tree (g.T.FileTree.disk c.rm_attr.new.tree).tree)) c.slice-in-RmAttr.ensures (c.rm_attr.ensures.done tells))
+
+pub returns-in-RmAttrs-clause-done : goal.returns-in-RmAttrs-clause-done
+returns-in-RmAttrs-clause-done g c = λ tells n is.
+    on_its_name c.args.op.now _ (name_at c.in-RmAttrs.c c.in-RmAttrs.o) n c.in-RmAttrs.is refl is (λ m F. OnOk c.rm_attrs.result (ForObject c.args.set.now m (λ x y. y ≡ F x) (g.T.FileTree.disk c.args.tree.now).tree (g.T.FileTree.disk c.rm_attrs.new.tree).tree))
+    (c.rm_attrs.ensures.done tells)

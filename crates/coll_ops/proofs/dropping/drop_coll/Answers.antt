@@ -5,6 +5,7 @@ use Rattle.coll_ops.specs.Places.{trash_at, Within}
 use Rattle.coll_ops.specs.Trash.{PlaceAfter, IsInTheWay}
 use Rattle.coll_ops.proofs.Paths.{apart}
 use Rattle.coll_ops.proofs.Going.{thrown_drops, thrown_elsewhere, thrown_ready, thrown_others, throws_along, on_ok}
+use Rattle.coll_ops.proofs.StaysClear.{thrown_clear}
 use Rattle.coll_ops.proofs.Trees.{trees_after}
 use Rattle.coll_ops.proofs.dropping.drop_coll.Goals as goal
 
@@ -22,6 +23,12 @@ pub returns-clause-off : goal.returns-clause-off
 returns-clause-off g c = λ t.
     let disk = g.T.FileTree.disk in
     thrown_elsewhere c.args.coll.now c.fits.ensures c.args.pos (disk c.args.tree.now) (disk c.throw_away.new.tree) (g.met.T.FileTree.sound c.args.tree.now (search rules))
+    (throws_along c.in_ok-path.path c.in_ok-place.place c.args.coll.now c.args.pos (disk c.args.tree.now) (disk c.throw_away.new.tree) c.in_ok-path.ensures c.in_ok-place.ensures (c.throw_away.ensures.throws (search rules)))
+
+pub returns-clause-clear : goal.returns-clause-clear
+returns-clause-clear g c = λ t.
+    let disk = g.T.FileTree.disk in
+    thrown_clear c.args.coll.now c.fits.ensures c.args.pos (disk c.args.tree.now) (disk c.throw_away.new.tree) (g.met.T.FileTree.sound c.args.tree.now (search rules))
     (throws_along c.in_ok-path.path c.in_ok-place.place c.args.coll.now c.args.pos (disk c.args.tree.now) (disk c.throw_away.new.tree) c.in_ok-path.ensures c.in_ok-place.ensures (c.throw_away.ensures.throws (search rules)))
 
 pub returns-clause-ready : goal.returns-clause-ready

@@ -3,6 +3,7 @@ use Rattle.std.proofs.lemmas.Result.{IfOk-weaker}
 use Rattle.tree_api.specs.Tree.{Path}
 use Rattle.coll_ops.specs.Changes.{Sweeps}
 use Rattle.coll_ops.specs.Trash.{FirstGoes, FirstTooDeep}
+use Rattle.coll_ops.proofs.StaysClear.{swept_clear}
 use Rattle.coll_ops.proofs.Trash.{swept_stay, swept_elsewhere, swept_ready}
 use Rattle.coll_ops.proofs.Trees.{left_after}
 use Rattle.coll_ops.proofs.emptying.sweep_first.Goals as goal
@@ -18,6 +19,11 @@ returns-clause-off g c = λ t.
     let disk = g.T.FileTree.disk in
     swept_elsewhere (disk c.args.tree.now) (disk c.sweep_first_in.new.tree) (g.met.T.FileTree.sound c.args.tree.now (search rules))
     (subst (λ (p : Path). Sweeps p (disk c.args.tree.now) (disk c.sweep_first_in.new.tree)) c.in_ok-dir.ensures (c.sweep_first_in.ensures.sweeps (search rules)))
+
+pub returns-clause-clear : goal.returns-clause-clear
+returns-clause-clear g c = λ t.
+    let disk = g.T.FileTree.disk in
+    swept_clear c.in_ok-dir.dir (disk c.args.tree.now) (disk c.sweep_first_in.new.tree) (g.met.T.FileTree.sound c.args.tree.now (search rules)) (c.sweep_first_in.ensures.sweeps (search rules))
 
 pub returns-clause-ready : goal.returns-clause-ready
 returns-clause-ready g c = λ t.

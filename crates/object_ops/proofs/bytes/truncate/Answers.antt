@@ -6,7 +6,7 @@ use Rattle.tree_api.specs.Tree.{Cut}
 use Rattle.tree_stands.specs.Trees.{name_at, ForObject}
 use Rattle.op_effects.specs.Ready.{Ready}
 use Rattle.object_ops.proofs.Passes.{changed, part_crash, part_off, op_crash, op_off, op_done, op_ready}
-use Rattle.object_ops.proofs.PlacesKept.{places_then, places_goes}
+use Rattle.object_ops.proofs.PlacesKept.{free_then, free_goes}
 use Rattle.object_ops.proofs.Standing.{dir_stays}
 use Rattle.object_ops.proofs.Undamaged.{when_done}
 use Rattle.object_ops.proofs.bytes.truncate.Goals as goal
@@ -50,12 +50,12 @@ returns-clause-off g c = λ t.
     op_off c.args.set.now n c.name_fits.ensures (with_bytes (cut c.args.len)) (bytes_inside (cut c.args.len)) (disk c.open.new.tree) (disk c.truncate.new.tree) (g.met.T.FileTree.sound c.open.new.tree (search rules)) (g.met.T.FileTree.sound c.truncate.new.tree (search rules)) (c.in_ok-path.ensures.ready (search rules)) c.in_ok-path.path (c.in_ok-path.ensures.stands (search rules)) (IsOk c.truncate.result) (c.truncate.ensures.goes (search rules))
     (disk c.args.tree.now) s0 (c.requires.ready (search rules)) (c.open.ensures.goes (search rules)) (c.in_ok-path.ensures.reads (search rules))
 
-pub returns-clause-places : goal.returns-clause-places
-returns-clause-places g c = λ t.
+pub returns-clause-free : goal.returns-clause-free
+returns-clause-free g c = λ t.
     let disk = g.T.FileTree.disk in
     let s1 = g.met.T.FileTree.sound c.open.new.tree (search rules) in
-    places_then (disk c.args.tree.now) (disk c.open.new.tree) (disk c.truncate.new.tree) s1 (c.open.ensures.places (search rules))
-    (places_goes c.in_ok-path.path (Cut c.args.len) (disk c.open.new.tree) (disk c.truncate.new.tree) (IsOk c.truncate.result) (c.truncate.ensures.goes (search rules)))
+    free_then (disk c.args.tree.now) (disk c.open.new.tree) (disk c.truncate.new.tree) s1 (c.open.ensures.free (search rules))
+    (free_goes c.in_ok-path.path (Cut c.args.len) (disk c.open.new.tree) (disk c.truncate.new.tree) (IsOk c.truncate.result) (c.truncate.ensures.goes (search rules)))
 
 pub returns-clause-there : goal.returns-clause-there
 returns-clause-there g c = λ t.

@@ -13,7 +13,7 @@ use Rattle.tree_stands.proofs.Only.{off_aside}
 use Rattle.op_effects.specs.Ready.{Ready}
 use Rattle.object_ops.specs.Object.{ReadsBy}
 use Rattle.object_ops.proofs.Opening.{held_none, made_goes, made_reads, made_ready, made_stands, made_file}
-use Rattle.object_ops.proofs.PlacesKept.{places_still, places_then, places_made}
+use Rattle.object_ops.proofs.PlacesKept.{free_still, free_then, free_made}
 use Rattle.object_ops.proofs.Undamaged.{unblocked, on_made, on_made3, if_made}
 use Rattle.object_ops.proofs.finding.open.Goals as goal
 
@@ -36,13 +36,13 @@ returns-in_default-clause-goes g c = λ t.
     (c.requires.ready (search rules)) (disk c.make.new.tree) (c.make.ensures.one t)
     (held_none c.args.set.now n c.name_fits.ensures c.in_ok-dir.dir c.in_ok-dir.ensures (disk c.args.tree.now).tree c.in_ok-found.found c.in_default.not-Some (c.in_ok-found.ensures.maps (search rules)))
 
-pub returns-in_default-clause-places : goal.returns-in_default-clause-places
-returns-in_default-clause-places g c = λ t.
+pub returns-in_default-clause-free : goal.returns-in_default-clause-free
+returns-in_default-clause-free g c = λ t.
     let disk = g.T.FileTree.disk in
     let s0 = g.met.T.FileTree.sound c.args.tree.now (search rules) in
     let s1 = g.met.T.FileTree.sound c.find.new.tree (search rules) in
-    places_then (disk c.args.tree.now) (disk c.find.new.tree) (disk c.make.new.tree) s1 (places_still (disk c.args.tree.now) (disk c.find.new.tree) s0 (c.find.ensures.still (search rules)).stays)
-    (places_made c.args.set.now (aside_at c.args.pos) c.in_ok-dir.dir (oid_text c.args.oid.now) (disk c.find.new.tree) (disk c.make.new.tree) s1 (c.make.ensures.leaves t))
+    free_then (disk c.args.tree.now) (disk c.find.new.tree) (disk c.make.new.tree) s1 (free_still (disk c.args.tree.now) (disk c.find.new.tree) s0 (c.find.ensures.still (search rules)).stays)
+    (free_made c.args.set.now (aside_at c.args.pos) c.in_ok-dir.dir (oid_text c.args.oid.now) (disk c.find.new.tree) (disk c.make.new.tree) s1 (c.make.ensures.leaves t))
 
 pub returns-in_default-clause-reads : goal.returns-in_default-clause-reads
 returns-in_default-clause-reads g c = λ t.

@@ -9,7 +9,7 @@ use Rattle.tree_stands.specs.Trees.{name_at, dir_of, ForObject}
 use Rattle.op_effects.specs.Ready.{Ready}
 use Rattle.object_ops.proofs.Goes.{crash_by, off_by, done_by}
 use Rattle.object_ops.proofs.Opening.{found_stands, gone_goes, gone_reads, gone_ready}
-use Rattle.object_ops.proofs.PlacesKept.{places_still, places_then, places_gone}
+use Rattle.object_ops.proofs.PlacesKept.{free_still, free_then, free_gone}
 use Rattle.object_ops.proofs.Standing.{dir_stays}
 use Rattle.object_ops.proofs.Undamaged.{unblocked, when_done, on_ok_is}
 use Rattle.object_ops.proofs.removal.remove.Goals as goal
@@ -52,13 +52,13 @@ returns-clause-off g c = λ t.
     let one = c.unlink.ensures.one t c.args.set.now (dir_of c.args.coll.now) c.args.oid.now stands.0 stands.1 stands.2 (c.name_fits.ensures.oid, stands.3) in
     off_by c.args.set.now n c.name_fits.ensures no_file d0 d2 (gone_goes c.args.set.now n c.name_fits.ensures c.in_ok-dir.dir c.in_ok-dir.ensures d0 d1 s0 s1 stays (c.requires.ready (search rules)) d2 one) (c.requires.ready (search rules)) s0
 
-pub returns-clause-places : goal.returns-clause-places
-returns-clause-places g c = λ t.
+pub returns-clause-free : goal.returns-clause-free
+returns-clause-free g c = λ t.
     let disk = g.T.FileTree.disk in
     let s0 = g.met.T.FileTree.sound c.args.tree.now (search rules) in
     let s1 = g.met.T.FileTree.sound c.find.new.tree (search rules) in
-    places_then (disk c.args.tree.now) (disk c.find.new.tree) (disk c.unlink.new.tree) s1 (places_still (disk c.args.tree.now) (disk c.find.new.tree) s0 (c.find.ensures.still (search rules)).stays)
-    (places_gone c.in-Some.path (disk c.find.new.tree) (disk c.unlink.new.tree) s1 (c.unlink.ensures.leaves t))
+    free_then (disk c.args.tree.now) (disk c.find.new.tree) (disk c.unlink.new.tree) s1 (free_still (disk c.args.tree.now) (disk c.find.new.tree) s0 (c.find.ensures.still (search rules)).stays)
+    (free_gone c.in-Some.path (disk c.find.new.tree) (disk c.unlink.new.tree) s1 (c.unlink.ensures.leaves t))
 
 pub returns-clause-there : goal.returns-clause-there
 returns-clause-there g c = λ t.

@@ -5,6 +5,7 @@ use Rattle.ring_frame.specs.Heads.{Head}
 use Rattle.ring_images.specs.Held.{readable, EachSound}
 use Rattle.store_history.specs.History.{replay_of}
 use Rattle.store_history.specs.Journal.{Spells, above, IsAbove, RingSide}
+use Rattle.store_mount.proofs.Going.{tidied_keeps, tidied_reads}
 use Rattle.store_mount.proofs.Numbers.{last_number}
 use Rattle.store_mount.proofs.Reopened.{loaded_above, as_loaded}
 use Rattle.store_mount.proofs.Told.{ended_length}
@@ -15,11 +16,39 @@ returns-in-Err-clause-crash g c = λ told txns spells.
     keeps_same (EachSound (IsAbove c.args.ring.now.head.fsid c.args.committed txns)) (g.D.Device.state c.args.dev.now).disk (g.D.Device.state c.replay.new.dev).disk _ _
     (c.replay.ensures.disk told) (c.replay.ensures.past told) (loaded_above c.args.ring.now _ c.args.committed (c.requires.loaded (search rules)) c.requires.no_gap txns spells)
 
+pub returns-in_err-tidy-clause-keeps : goal.returns-in_err-tidy-clause-keeps
+returns-in_err-tidy-clause-keeps g c = λ tells told.
+    let S = g.S.Side in
+    tidied_keeps (S.image (S.set c.args.side.now)) c.args.committed c.args.ring.now.head.seq (readable (g.D.Device.state c.args.dev.now).disk.stable)
+    (g.T.FileTree.disk c.args.tree.now) (g.T.FileTree.disk c.replay.new.tree) (g.T.FileTree.disk c.tidy.new.tree) (g.met.T.FileTree.sound c.replay.new.tree (search rules))
+    (c.replay.ensures.keeps (search rules) (search rules)) (c.tidy.ensures.keeps (search rules))
+
+pub returns-in_err-tidy-clause-crash : goal.returns-in_err-tidy-clause-crash
+returns-in_err-tidy-clause-crash g c = λ told txns spells.
+    keeps_same (EachSound (IsAbove c.args.ring.now.head.fsid c.args.committed txns)) (g.D.Device.state c.args.dev.now).disk (g.D.Device.state c.replay.new.dev).disk _ _
+    (c.replay.ensures.disk told) (c.replay.ensures.past told) (loaded_above c.args.ring.now _ c.args.committed (c.requires.loaded (search rules)) c.requires.no_gap txns spells)
+
 pub returns-in_err-reopen-clause-keeps : goal.returns-in_err-reopen-clause-keeps
-returns-in_err-reopen-clause-keeps g c = λ tells told before txns spells here. c.replay.ensures.keeps (search rules) (search rules) before txns spells here
+returns-in_err-reopen-clause-keeps g c = λ tells told.
+    let S = g.S.Side in
+    tidied_keeps (S.image (S.set c.args.side.now)) c.args.committed c.args.ring.now.head.seq (readable (g.D.Device.state c.args.dev.now).disk.stable)
+    (g.T.FileTree.disk c.args.tree.now) (g.T.FileTree.disk c.replay.new.tree) (g.T.FileTree.disk c.tidy.new.tree) (g.met.T.FileTree.sound c.replay.new.tree (search rules))
+    (c.replay.ensures.keeps (search rules) (search rules)) (c.tidy.ensures.keeps (search rules))
 
 pub returns-clause-keeps : goal.returns-clause-keeps
-returns-clause-keeps g c = λ tells told before txns spells here. c.replay.ensures.keeps (search rules) (search rules) before txns spells here
+returns-clause-keeps g c = λ tells told.
+    let S = g.S.Side in
+    tidied_keeps (S.image (S.set c.args.side.now)) c.args.committed c.args.ring.now.head.seq (readable (g.D.Device.state c.args.dev.now).disk.stable)
+    (g.T.FileTree.disk c.args.tree.now) (g.T.FileTree.disk c.replay.new.tree) (g.T.FileTree.disk c.tidy.new.tree) (g.met.T.FileTree.sound c.replay.new.tree (search rules))
+    (c.replay.ensures.keeps (search rules) (search rules)) (c.tidy.ensures.keeps (search rules))
+
+pub returns-clause-done : goal.returns-clause-done
+returns-clause-done g c = λ tells told.
+    let S = g.S.Side in
+    let set = S.set c.args.side.now in
+    tidied_reads (S.image set) c.args.committed c.args.ring.now.head.seq (readable (g.D.Device.state c.args.dev.now).disk.stable)
+    (g.T.FileTree.disk c.args.tree.now) (g.T.FileTree.disk c.replay.new.tree) (g.T.FileTree.disk c.tidy.new.tree) (S.reads set)
+    (c.in-Ok.ensures.done (search rules) (search rules)) (c.tidy.ensures.reads (search rules))
 
 pub returns-clause-ring : goal.returns-clause-ring
 returns-clause-ring g c = λ told before txns.

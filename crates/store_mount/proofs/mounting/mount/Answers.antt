@@ -1,10 +1,10 @@
-use Rattle.std.proofs.Common.{rules, arith, ap, subst, Err}
+use Rattle.std.proofs.Common.{rules, arith, ap, subst, sym, ◌∙◌, Err}
 use Rattle.dev_api.specs.Disk.{Disk}
 use Rattle.dev_api.proofs.Run.{keeps_weaker, keeps_then}
 use Rattle.tree_api.specs.Tree.{Tree}
 use Rattle.store_history.specs.Journal.{EachImage, Spells, above}
 use Rattle.store_history.specs.Pair.{StandsAt}
-use Rattle.ring_images.specs.Held.{readable}
+use Rattle.ring_images.specs.Held.{readable, Within}
 use Rattle.store_mount.specs.Causes.{RefusesReplay, Loads}
 use Rattle.store_mount.specs.Mounts.{WasOrServes}
 use Rattle.store_mount.proofs.Carried.{found_carries, found_trees, found_journals, run_trees, run_journals, run_carries, mounted, spells_loaded, settled_sound, all_moments}
@@ -106,7 +106,7 @@ returns-in-Err-go_on-clause-refused g c = λ tells told.
     let found = c.in-Ok.found in
     let entry = (g.D.Device.state c.args.dev.now).disk in
     let loads : Loads entry.reads c.args.fsid.now = record { head = found.ring.head; header = c.in-Ok.ensures.head (search rules); fsid_is = c.in-Ok.ensures.fsid; unspent = c.in-Ok.ensures.unspent } in
-    replay_explains S.fits S.number (g.T.FileTree.disk c.args.tree.now).tree c.args.fsid.now entry.reads loads found.committed (c.in-Ok.ensures.number (search rules)) c.in-Ok.ensures.no_gap
+    replay_explains S.fits S.number (S.laid set) (g.T.FileTree.disk c.args.tree.now).tree c.args.fsid.now entry.reads loads found.committed (c.in-Ok.ensures.number (search rules)) c.in-Ok.ensures.no_gap (c.in-Ok.ensures.laid (search rules))
     c.in-Err-go_on.fault (λ p e. c.in-Err-go_on.ensures.undamaged (search rules) p (ap Err e))
     (subst (λ (d : Disk). RefusesReplay S.fits found.committed found.ring.head.seq (readable d.stable) c.in-Err-go_on.fault) (c.in-Ok.ensures.same (search rules)) (c.in-Err-go_on.ensures.refused (search rules)))
 
@@ -118,9 +118,17 @@ returns-in-Err-go_on-clause-only g c = λ tells told o n last s fit fresh.
     let entry = (g.D.Device.state c.args.dev.now).disk in
     let loads : Loads entry.reads c.args.fsid.now = record { head = found.ring.head; header = c.in-Ok.ensures.head (search rules); fsid_is = c.in-Ok.ensures.fsid; unspent = c.in-Ok.ensures.unspent } in
     outside S.fits (S.image set) (S.reads set) S.number (S.laid set) (g.met.S.Side.theory set) c.args.fsid.now entry.reads (g.T.FileTree.disk c.args.tree.now).tree o n last s fit fresh c.in-Err-go_on.fault
-    (replay_explains S.fits S.number (g.T.FileTree.disk c.args.tree.now).tree c.args.fsid.now entry.reads loads found.committed (c.in-Ok.ensures.number (search rules)) c.in-Ok.ensures.no_gap
+    (replay_explains S.fits S.number (S.laid set) (g.T.FileTree.disk c.args.tree.now).tree c.args.fsid.now entry.reads loads found.committed (c.in-Ok.ensures.number (search rules)) c.in-Ok.ensures.no_gap (c.in-Ok.ensures.laid (search rules))
     c.in-Err-go_on.fault (λ p e. c.in-Err-go_on.ensures.undamaged (search rules) p (ap Err e))
     (subst (λ (d : Disk). RefusesReplay S.fits found.committed found.ring.head.seq (readable d.stable) c.in-Err-go_on.fault) (c.in-Ok.ensures.same (search rules)) (c.in-Err-go_on.ensures.refused (search rules))))
+
+pub returns-in-Err-go_on-clause-device_reads : goal.returns-in-Err-go_on-clause-device_reads
+returns-in-Err-go_on-clause-device_reads g c = λ told first.
+    ap (λ (d : Disk). d.reads) (c.in-Err-go_on.ensures.device_stays told first) ∙ ap (λ (d : Disk). d.reads) (c.in-Ok.ensures.same (search rules))
+
+pub returns-in-Err-go_on-clause-no_image : goal.returns-in-Err-go_on-clause-no_image
+returns-in-Err-go_on-clause-no_image g c = λ told so first.
+    subst (Within (g.D.Device.state c.args.dev.now).disk) (sym (c.in-Err-go_on.ensures.device_stays told first)) (c.find.ensures.crash (search rules) so).has
 
 pub returns-in-Err-go_on-clause-moments : goal.returns-in-Err-go_on-clause-moments
 returns-in-Err-go_on-clause-moments g c = λ tells told settled fresh o n last all.
@@ -210,6 +218,7 @@ returns-clause-can g c = λ tells told.
       loads = loads;
       number_is = c.in-Ok.ensures.number (search rules);
       no_gap = c.in-Ok.ensures.no_gap;
+      is_laid = c.in-Ok.ensures.laid (search rules);
       txns = spelled.0;
       spelled = subst (λ (d : Disk). Spells (above found.committed found.ring.head.seq (readable d.stable)) spelled.0) (c.in-Ok.ensures.same (search rules)) spelled.1;
       fit = spelled.2;

@@ -1,5 +1,5 @@
 use Rattle.std.proofs.Common.{rules, arith, ◌≡◌, ◌∙◌, ℕ, ◌+◌, ◌-◌, drop, ap, sym, refl, subst}
-use Rattle.std.specs.Prelude.{length, Option, Some, None, IfSome, IfNone}
+use Rattle.std.specs.Prelude.{length, Option, Some, None, Err, IfSome, IfNone}
 use Rattle.dev_api.specs.Disk.{Disk}
 use Rattle.ring_frame.specs.Heads.{Head}
 use Rattle.ring_images.specs.Held.{readable}
@@ -7,7 +7,7 @@ use Rattle.ring_journal.specs.declared.blob.Stored.{Stored}
 use Rattle.ring_journal.specs.State.{State, told_first}
 use Rattle.store_mount.proofs.Going.{begun, finished, keeps_on, goes_on}
 use Rattle.store_mount.proofs.Told.{Spelled, spelled_none, spelled_more, spelled_all, ended_length}
-use Rattle.store_mount.proofs.Refusals.{entry_refuses}
+use Rattle.store_mount.proofs.Refusals.{entry_refuses, entry_late}
 use Rattle.store_mount.proofs.replaying.replay.Goals as goal
 
 pub loop-stored-init : goal.loop-stored-init
@@ -78,7 +78,7 @@ returns-in-Err g c =
       disk = λ told. next.disk told ∙ inv.disk (search rules);
       past = λ told. next.past told ∙ inv.past (search rules);
       refused = λ told. tt;
-      late = λ first. first;
+      late = λ tells first. first;
       undamaged = λ tells p e. absurd (cc);
       told = inv.told;
       honest = search rules;
@@ -114,6 +114,10 @@ returns-in-Err-redo_entry-clause-refused g c = λ told.
     sym (sym c.in-Ok-Some.field-0-is ∙ c.in-Ok-Some.ensures.told told ∙ ap (λ (d : Disk). told_first (drop c.loop-stored.ring.count (readable d.stable))) (inv.disk (search rules))) in
     entry_refuses g.S.Side.fits c.args.committed c.args.ring.now.head.seq c.loop-stored.ring.count es stored one (omega (arith, number.0, seq)) (inv.spelled (search rules))
     c.in-Err-redo_entry.fault c.in-Err-redo_entry.ensures.refused
+
+pub returns-in-Err-redo_entry-clause-late : goal.returns-in-Err-redo_entry-clause-late
+returns-in-Err-redo_entry-clause-late g c = λ tells.
+    entry_late g.S.Side.fits c.args.committed c.in-Ok-Some.stored c.in-Err-redo_entry.fault (λ p e. c.in-Err-redo_entry.ensures.undamaged tells p (ap Err e)) c.in-Err-redo_entry.ensures.refused
 
 pub loop-stored-smaller : goal.loop-stored-smaller
 loop-stored-smaller g c =

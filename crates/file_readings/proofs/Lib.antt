@@ -1,0 +1,7 @@
+mod Found
+mod Gathered
+mod Named
+mod Ordered
+mod PairLists
+mod Reading
+mod Shelves

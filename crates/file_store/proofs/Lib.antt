@@ -1,0 +1,5 @@
+mod Answering
+mod Draining
+mod Queueing
+pub mod Shown
+pub mod Stilled

@@ -1,0 +1,30 @@
+use Rattle.std.proofs.Common.{◌≡◌, sym, ap, subst, rules}
+use Rattle.fs_names.specs.declared.settings.Settings.{Settings}
+use Rattle.fs_model.specs.Objects.{Objects}
+use Rattle.store_history.specs.History.{at, end_of}
+use Rattle.tree_shows.specs.Shows.{Shows}
+use Rattle.apply_ops.specs.Next.{IsReady}
+use Rattle.file_store.proofs.Answering.{damaged_back, tree_back, works_on, whole_now}
+use Rattle.file_store.proofs.Shown.{shown}
+use Rattle.file_store.proofs.Stilled.{is_ready_stays}
+use Rattle.file_store.proofs.store.FileStore.stat.Goals as goal
+
+pub returns-clause-reads : goal.returns-clause-reads
+returns-clause-reads g c = λ tells h r.
+    let t = g.T.FileTree.disk c.args.tree.now in
+    let ready = c.requires.tree (search rules) r.works in
+    c.in-Ok.ensures.reads (search rules) (at h (end_of h)) (subst (λ (s : Settings). Shows s (at h (end_of h)) t.tree) (sym c.place.ensures) (shown h c.args.self.now t r)) ready.own.clear
+
+pub returns-clause-tree : goal.returns-clause-tree
+returns-clause-tree g c = λ tells works.
+    is_ready_stays (g.T.FileTree.disk c.args.tree.now) (g.T.FileTree.disk c.stat.new.tree) (c.stat.ensures.still (search rules)).stays c.args.self.now.set (c.requires.tree (search rules) works)
+
+pub returns-in-Err-clause-tree : goal.returns-in-Err-clause-tree
+returns-in-Err-clause-tree g c = λ tells works.
+    is_ready_stays (g.T.FileTree.disk c.args.tree.now) (g.T.FileTree.disk c.stat.new.tree) (c.stat.ensures.still (search rules)).stays c.args.self.now.set (c.requires.tree (search rules) works)
+
+pub returns-in-Err-clause-undamaged : goal.returns-in-Err-clause-undamaged
+returns-in-Err-clause-undamaged g c = λ tells works p is.
+    let t = g.T.FileTree.disk c.args.tree.now in
+    let ready = subst (λ (s : Settings). IsReady s t) (sym c.place.ensures) (c.requires.tree (search rules) works) in
+    c.stat.ensures.undamaged (search rules) (whole_now c.place.result.1 t (g.met.T.FileTree.sound c.args.tree.now (search rules)) ready) ready.own.clear p (damaged_back c.in-Err.fault p is)

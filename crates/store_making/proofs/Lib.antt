@@ -1,0 +1,4 @@
+mod Off
+mod Made
+mod Orders
+mod Telling

@@ -1,0 +1,6 @@
+mod Depths
+mod Looked
+mod Objects
+mod Thinning
+mod Tidied
+mod Walks
