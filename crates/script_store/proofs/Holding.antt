@@ -6,49 +6,27 @@ use Rattle.fs_model.specs.declared.op.Op.{Op}
 use Rattle.fs_model.specs.declared.op.Txn.{Txn}
 use Rattle.fs_model.specs.Objects.{Objects}
 use Rattle.fs_model.specs.Rows.{fold_ops, fold_txns}
-use Rattle.tree_api.specs.Tree.{Tree}
-use Rattle.tree_api.specs.Disk.{Disk as Files, Still}
+use Rattle.tree_api.specs.Disk.{Disk as Files}
 use Rattle.dev_api.specs.Disk.{Disk}
 use Rattle.dev_api.specs.DeviceState.{DeviceState}
 use Rattle.store_history.specs.History.{History, end_of, at}
-use Rattle.store_turns.specs.declared.numbers.How.TheVariants.{Live}
 use Rattle.store_turns.specs.declared.numbers.Numbers.{Numbers}
 use Rattle.store_queue.specs.Waiting.{Waiting}
 use Rattle.history_tails.proofs.Tails.{at_more}
 use Rattle.tree_places.specs.Line.{ops_of as flat}
-use Rattle.tree_places.specs.Images.{reads}
 use Rattle.tree_places.proofs.Flat.{fold_flat}
 use Rattle.fs_script.specs.declared.statement.Statement.{Statement}
 use Rattle.fs_script.specs.declared.statement.Statement.TheVariants.{Drain, Read, Stat, Attrs, Omap, List as ListIn, Colls}
 use Rattle.fs_session.specs.Answers.{Session, step, after_drain, waiting_ops}
 use Rattle.file_store.specs.Store.{Store, Works, IsItsTree, IsItsDevice, IsDrained, waiting_in}
-use Rattle.file_store.specs.Holds.{Holds, Reads, Waits, with_waiting}
+use Rattle.file_store.specs.Holds.{Holds, Waits, with_waiting}
 use Rattle.script_store.specs.declared.store.ScriptStore.{ScriptStore}
 use Rattle.script_store.specs.Script.{session_of, session_on, ops_of, is_reading, drained_in}
 use Rattle.script_store.specs.Held.{with_queue, more, with_drained, IsSame}
 use Rattle.script_store.proofs.Histories.{more_none, none_drained}
+use Rattle.script_store.proofs.Queued.{flat_waiting}
 
--- a reading of a store that holds a history reads that
-pub reads_of : (h : History) (s : Store) (t : Files) (d : Disk) → Holds h s t d → Reads h s t
-reads_of h s t d k = record { works = k.works; long = k.long; tail = k.tail; end = k.end; reads = k.on.reads }
-
--- a tree that is still holds what it held
-pub holds_still : (h : History) (s : Store) (t u : Files) (d : Disk) → Still t u → Holds h s t d → Holds h s u d
-holds_still h s t u d still k = record {
-  works = k.works;
-  long = k.long;
-  tail = k.tail;
-  end = k.end;
-  on = record {
-    small = k.on.small;
-    images = λ c may. k.on.images c (still.stays.image c may);
-    reads = subst (λ (c : Tree). reads s.set Live k.long s.numbers.journalled c) (sym still.stays.tree) k.on.reads;
-    ring = k.on.ring;
-  };
-  waits = k.waits;
-}
-
--- and so does a store with another queue behind the history
+-- a store with another queue holds what it held
 pub holds_queued : (h : History) (s s2 : Store) (t : Files) (d : Disk) → s2 ≡ with_queue s s2.queue → Waits h s2 → Holds h s t d → Holds h s2 t d
 holds_queued h s s2 t d is waits k =
     subst (λ (x : Store). Holds h x t d) (sym is) (record { works = k.works; long = k.long; tail = k.tail; end = k.end; on = k.on; waits = subst (Waits h) is waits })
@@ -90,10 +68,6 @@ reading_stays s Colls is = refl
 reading_stays s _ is = absurd (cc)
 
 -- a drain
-
-flat_waiting : (txns : List Txn) → flat_map (λ txn. txn.ops) txns ≡ flat (ops_of txns)
-flat_waiting [] = refl
-flat_waiting (txn ∷ txns) = ap (λ (l : List Op). txn.ops ++ l) (flat_waiting txns)
 
 -- the objects after all that waited
 pub drained_objects : (h : History) (s : Store) → at (with_waiting h s) (end_of (with_waiting h s)) ≡ fold_ops (at h (end_of h)) (flat_map (λ txn. txn.ops) s.queue.txns)

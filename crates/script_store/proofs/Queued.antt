@@ -2,11 +2,15 @@
 use Rattle.std.proofs.Common.{◌≡◌, ℕ, List, [], ◌∷◌, ◌++◌, length, refl, sym, ◌∙◌, ap, subst}
 use Rattle.std.specs.Prelude.{Option, None, Some, Result, Ok, Err, IfOk, OnOk, OnErr, ◌≢◌}
 use Rattle.fs_model.specs.declared.op.Txn.{Txn}
-use Rattle.fs_model.specs.Colls.{CollSet}
+use Rattle.std.specs.List.{flat_map}
+use Rattle.fs_model.specs.declared.op.Op.{Op}
+use Rattle.fs_model.specs.Colls.{CollSet, colls_of}
+use Rattle.fs_model.specs.Check.{colls_after}
 use Rattle.fs_script.specs.declared.answer.Answer.{Answer}
 use Rattle.fs_script.specs.declared.answer.Answer.TheVariants as answers
 use Rattle.fs_session.specs.Answers.{Session, answer_for, queue_answer, queued_if, queue_step}
-use Rattle.store_history.specs.History.{History}
+use Rattle.store_history.specs.History.{History, end_of, at}
+use Rattle.tree_places.specs.Line.{ops_of as flat}
 use Rattle.store_queue.specs.Waiting.{Waiting}
 use Rattle.file_store.specs.declared.fault.First.{First}
 use Rattle.file_store.specs.declared.fault.QueueFault.{QueueFault}
@@ -14,7 +18,7 @@ use Rattle.file_store.specs.declared.fault.QueueFault.TheVariants.{Broken, Txn a
 use Rattle.file_store.specs.Store.{Store, Works, with_txn}
 use Rattle.file_store.specs.Holds.{Waits}
 use Rattle.file_store.specs.Faults.{QueueTells, queue_answer as answer_of}
-use Rattle.script_store.specs.Script.{session_of, IsAnswerOf}
+use Rattle.script_store.specs.Script.{session_of, ops_of, IsAnswerOf}
 use Rattle.script_store.specs.Held.{with_queue}
 
 some_first : (first : First) → Some first ≡ None → ⊥
@@ -42,9 +46,15 @@ answered s a b (Err QueueFull) tells is = is ∙ sym tells.1
 answered s a b (Err NumbersSpent) tells is = is ∙ sym tells.1
 answered s a b (Err Memory) tells is = absurd is
 
+pub flat_waiting : (txns : List Txn) → flat_map (λ txn. txn.ops) txns ≡ flat (ops_of txns)
+flat_waiting [] = refl
+flat_waiting (txn ∷ txns) = ap (λ (l : List Op). txn.ops ++ l) (flat_waiting txns)
+
 -- a session's collections are the queue's
 same_answer : (h : History) (s : Store) (txn : Txn) → Waits h s → answer_of s txn ≡ queue_answer (session_of h s None) txn
-same_answer h s txn waits = ap (λ (colls : CollSet). answer_for colls s.queue.size (length s.queue.txns) s.queue.last txn) waits.colls
+same_answer h s txn waits =
+    ap (λ (colls : CollSet). answer_for colls s.queue.size (length s.queue.txns) s.queue.last txn)
+    (waits.colls_are ∙ sym (ap (colls_after (colls_of (at h (end_of h)))) (flat_waiting s.queue.txns)))
 
 one_answer : (a : Answer) (session : Session) (txn : Txn) → (queued_if a session txn).answers ≡ a ∷ []
 one_answer (answers.Queued seq) session txn = refl

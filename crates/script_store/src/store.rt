@@ -1,12 +1,14 @@
 //! The store, and one statement after another.
-ghost use Rattle.std.specs.Prelude.{◌≡◌, ◌≢◌, ◌≤◌, Err, IfOk, OnErr, IsErrOf};
+ghost use Rattle.std.specs.Prelude.{◌≡◌, ◌≢◌, ◌≤◌, true, [], ◌∷◌, Err, IfOk, OnErr, IsErrOf};
 ghost use Rattle.std.specs.Option.{option_to_list};
 ghost use Rattle.fault_count.specs.Counted.{Counted};
 ghost use Rattle.tree_api.specs.Tree.{Path};
+ghost use Rattle.tree_api.specs.Disk.{Still};
 ghost use Rattle.store_history.specs.History.{History};
 ghost use Rattle.fs_session.specs.Answers.{step as step_of};
-ghost use Rattle.file_store.specs.Store.{Works, IsItsTree, IsItsDevice};
-ghost use Rattle.script_store.specs.Script.{session_on};
+ghost use Rattle.file_store.specs.Store.{Works, IsItsTree, IsItsDevice, IsDrained};
+ghost use Rattle.file_store.specs.Holds.{Holds, Reads, with_waiting};
+ghost use Rattle.script_store.specs.Script.{session_on, is_reading};
 ghost use Rattle.script_store.specs.Held.{HoldsOn, with_drained, LeavesSome, IsSame};
 
 use crate::fault::{StepFault, of_reading, of_turn};
@@ -33,6 +35,67 @@ pub struct ScriptStore {
 pub struct Stepped {
     pub store: ScriptStore,
     pub answer: Option<Answer>,
+}
+
+// Answers a statement that reads the tree.
+fn read<T: FileTree>(store: ScriptStore, statement: Statement, tree: &mut T) -> Result<Stepped, StepFault>
+    requires works { Works store.store }
+    requires reading { is_reading statement ≡ true }
+    requires tree { IsItsTree store.store (T.tells tree.old) (T.disk tree.old) }
+    ensures answer { T.tells tree.new → (h : History) → Reads h store.store (T.disk tree.old)
+        → IfOk result (λ stepped. option_to_list stepped.answer ≡ (step_of (session_on h store) statement).answers) }
+    ensures same { IfOk result (λ stepped. stepped.store ≡ store) }
+    ensures tree { IsItsTree store.store (T.tells tree.new) (T.disk tree.new) }
+    ensures still { T.tells tree.new → Still (T.disk tree.old) (T.disk tree.new) }
+    ensures undamaged { T.tells tree.new → (path : Path) → result ≢ Err (StepFault.Damaged path) }
+    ensures told { T.tells tree.new → T.tells tree.old }
+    ensures cause { IsErrOf result StepFault.Tree → Counted (T.disk tree.old).faults (T.disk tree.new).faults }
+    ensures of_tree { result ≢ Err StepFault.Device }
+    ensures faults { (T.disk tree.old).faults ≤ (T.disk tree.new).faults }
+{
+    let answer = match ask(&store, statement, tree) {
+        Ok(answer) => answer,
+        Err(fault) => return Err(of_reading(fault)),
+    };
+    Ok(Stepped {
+        store,
+        answer: Some(answer),
+    })
+}
+
+// Drains the store.
+fn drain<T: FileTree, D: Device>(store: ScriptStore, tree: &mut T, dev: &mut D) -> Result<Stepped, StepFault>
+    requires works { Works store.store }
+    requires tree { IsItsTree store.store (T.tells tree.old) (T.disk tree.old) }
+    requires device { IsItsDevice store.store (D.tells dev.old) (D.state dev.old) }
+    ensures answer { IfOk result (λ stepped. option_to_list stepped.answer ≡ Answer.Drained store.store.queue.last store.store.queue.last ∷ []) }
+    ensures opened { IfOk result (λ stepped. stepped.store.opened ≡ store.opened) }
+    ensures drained { IfOk result (λ stepped. IsDrained store.store stepped.store.store) }
+    ensures holds { T.tells tree.new → D.tells dev.new → (h : History) → HoldsOn h store (T.disk tree.old) (D.state dev.old)
+        → IfOk result (λ stepped. Holds (with_waiting h store.store) stepped.store.store (T.disk tree.new) (D.state dev.new).disk) }
+    ensures left { T.tells tree.new → D.tells dev.new → (h : History) → HoldsOn h store (T.disk tree.old) (D.state dev.old)
+        → OnErr result (LeavesSome h store (T.disk tree.new) (D.state dev.new)) }
+    ensures tree { IfOk result (λ stepped. IsItsTree stepped.store.store (T.tells tree.new) (T.disk tree.new)) }
+    ensures device { IfOk result (λ stepped. IsItsDevice stepped.store.store (D.tells dev.new) (D.state dev.new)) }
+    ensures undamaged { T.tells tree.new → (path : Path) → result ≢ Err (StepFault.Damaged path) }
+    ensures told { T.tells tree.new → T.tells tree.old }
+    ensures honest { D.tells dev.new → D.tells dev.old }
+    ensures extent { (D.state dev.new).size ≡ (D.state dev.old).size }
+    ensures tree_cause { IsErrOf result StepFault.Tree → Counted (T.disk tree.old).faults (T.disk tree.new).faults }
+    ensures device_cause { IsErrOf result StepFault.Device → Counted (D.state dev.old).faults (D.state dev.new).faults }
+    ensures tree_faults { (T.disk tree.old).faults ≤ (T.disk tree.new).faults }
+    ensures device_faults { (D.state dev.old).faults ≤ (D.state dev.new).faults }
+{
+    let ScriptStore { store, opened } = store;
+    let mut store = store;
+    let seq = match store.drain(tree, dev) {
+        Ok(seq) => seq,
+        Err(fault) => return Err(of_turn(fault)),
+    };
+    Ok(Stepped {
+        store: ScriptStore { store, opened },
+        answer: Some(Answer::Drained { acked: seq, seq }),
+    })
 }
 
 /// Does what a statement says, and answers it. What was acknowledged before is never lost, whatever becomes of it.
@@ -69,26 +132,11 @@ pub fn step<T: FileTree, D: Device>(
 {
     journal_law();
     if reads_tree(&statement) {
-        return match ask(&store, statement, tree) {
-            Ok(answer) => Ok(Stepped {
-                store,
-                answer: Some(answer),
-            }),
-            Err(fault) => Err(of_reading(fault)),
-        };
+        let stepped = read(store, statement, tree)?;
+        return Ok(stepped);
     }
     match statement {
-        Statement::Drain => {
-            let ScriptStore { store, opened } = store;
-            let mut store = store;
-            match store.drain(tree, dev) {
-                Ok(seq) => Ok(Stepped {
-                    store: ScriptStore { store, opened },
-                    answer: Some(Answer::Drained { acked: seq, seq }),
-                }),
-                Err(fault) => Err(of_turn(fault)),
-            }
-        }
+        Statement::Drain => Ok(drain(store, tree, dev)?),
         statement => Ok(work(alloc, store, statement)?),
     }
 }
