@@ -1,5 +1,5 @@
 -- A drain of all that waits behind a history.
-use Rattle.std.proofs.Common.{◌≡◌, ℕ, ◌+◌, ◌-◌, ◌<◌, ◌≤◌, ◌^◌, List, [], ◌∷◌, length, map, refl, sym, ◌∙◌, ap, subst, arith, length-append}
+use Rattle.std.proofs.Common.{◌≡◌, ℕ, ◌+◌, ◌-◌, ◌<◌, ◌≤◌, ◌^◌, List, [], ◌∷◌, length, map, refl, sym, ◌∙◌, ap, subst, arith, Option, Some, None, length-append}
 use Rattle.std.proofs.lemmas.List.{length-map}
 use Rattle.fs_names.specs.declared.settings.Settings.{Settings}
 use Rattle.fs_model.specs.declared.op.Op.{Op}
@@ -24,6 +24,7 @@ use Rattle.history_tails.proofs.Tails.{at_tail, tail_more, stands_tail}
 use Rattle.history_tails.proofs.Waits.{waits_done}
 use Rattle.history_tails.proofs.Due.{waiting_ops, due_more}
 use Rattle.history_tails.proofs.Longer.{holding_more, meets}
+use Rattle.file_store.specs.declared.fault.First.{First}
 use Rattle.file_store.specs.Store.{Store, Works, IsCounted, IsDrained, waiting_in, working}
 use Rattle.file_store.specs.Holds.{Holds, Leaves, with_waiting}
 
@@ -116,3 +117,30 @@ counted_after set numbers new ring to queue left counted is fits = record {
       omega (arith, last, none, journalled);
   size = ap (λ (w : Waiting). w.size) is.queue ∙ counted.size ∙ ap (λ (n : ℕ). n - 8192) (sym is.size);
 }
+
+-- ---- of the store itself
+
+abbrev store_at : Settings → Numbers → State → Waiting → Option First → Store
+store_at set numbers ring queue first = record { set = set; numbers = numbers; ring = ring; queue = queue; first = first }
+
+pub not_some : {A : Type 0} (o : Option A) → ((x : A) → o ≡ Some x → ⊥) → o ≡ None
+not_some None not = refl
+not_some (Some x) not = absurd (not x refl)
+
+module _ (s : Store) (set : Settings) (numbers : Numbers) (ring : State) (queue : Waiting) (first : Option First) (none : first ≡ None) (is : store_at set numbers ring queue first ≡ s) where
+  works_as : working set numbers ring queue ≡ s
+  works_as = ap (λ (f : Option First). store_at set numbers ring queue f) (sym none) ∙ is
+
+  pub store_holds : (numbers2 : Numbers) (ring2 : State) (queue2 : Waiting) (h : History) (t u : Files) (d e : Disk) → Holds h s t d
+      → (Holds h (working set numbers ring queue) t d → Holds (with_waiting h (working set numbers ring queue)) (working set numbers2 ring2 queue2) u e)
+      → Holds (with_waiting h s) (store_at set numbers2 ring2 queue2 first) u e
+  store_holds numbers2 ring2 queue2 h t u d e k run =
+      subst (λ (x : Store). Holds (with_waiting h x) (store_at set numbers2 ring2 queue2 first) u e) works_as
+      (subst (λ (f : Option First). Holds (with_waiting h (working set numbers ring queue)) (store_at set numbers2 ring2 queue2 f) u e) (sym none)
+      (run (subst (λ (x : Store). Holds h x t d) (sym works_as) k)))
+
+  pub store_leaves : (acked : ℕ) (h : History) (t u : Files) (d e : Disk) → Holds h s t d
+      → (Holds h (working set numbers ring queue) t d → Leaves (with_waiting h (working set numbers ring queue)) acked (working set numbers ring queue) u e)
+      → Leaves (with_waiting h s) acked s u e
+  store_leaves acked h t u d e k run =
+      subst (λ (x : Store). Leaves (with_waiting h x) acked x u e) works_as (run (subst (λ (x : Store). Holds h x t d) (sym works_as) k))

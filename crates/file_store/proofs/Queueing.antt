@@ -17,15 +17,10 @@ use Rattle.file_store.specs.Store.{Store, Works, waiting_in, with_txn}
 use Rattle.file_store.specs.Holds.{Waits}
 use Rattle.file_store.specs.Faults.{QueueTells, of_queue}
 
-pub waits_queued : (h : History) (s : Store) (txn : Txn) (seq : ℕ) → Waits h s → IsAccepted s.queue.colls txn.ops → Waits h (with_txn s txn seq)
-waits_queued h s txn seq waits accepted =
-    let one : waiting_in (with_txn s txn seq) ≡ waiting_in s ++ txn.ops ∷ [] = map-append (λ (x : Txn). x.ops) s.queue.txns (txn ∷ []) in
-    subst (λ (l : List (List Op)). WaitBehind h l (with_txn s txn seq).queue.colls) (sym one) (waits_more h (waiting_in s) s.queue.colls txn.ops waits accepted)
-
-pub tells_err : (s : Store) (answer : Answer) (fault : Unqueued) → Works s → TellsAnswer (Err fault) answer → QueueTells s answer (Err (of_queue fault))
-tells_err s answer (unqueued.Txn op why) works is = (works, is)
-tells_err s answer (unqueued.NotBuilt op) works is = (works, is)
-tells_err s answer (unqueued.TooLarge need size) works is = (works, is)
-tells_err s answer unqueued.QueueFull works is = (works, is)
-tells_err s answer unqueued.NumbersSpent works is = (works, is)
-tells_err s answer unqueued.Memory works is = works
+pub waits_queued : (h : History) (s : Store) (old new : Waiting) (txn : Txn) (seq : ℕ) → s.queue ≡ old → Waits h s → IsAccepted old.colls txn.ops → new ≡ queue_with old txn seq
+    → WaitBehind h (map (λ x. x.ops) new.txns) new.colls
+waits_queued h s old new txn seq same waits accepted is =
+    let one : map (λ x. x.ops) (queue_with old txn seq).txns ≡ map (λ x. x.ops) old.txns ++ txn.ops ∷ [] = map-append (λ (x : Txn). x.ops) old.txns (txn ∷ []) in
+    let before : WaitBehind h (map (λ x. x.ops) old.txns) old.colls = subst (λ (q : Waiting). WaitBehind h (map (λ x. x.ops) q.txns) q.colls) same waits in
+    subst (λ (q : Waiting). WaitBehind h (map (λ x. x.ops) q.txns) q.colls) (sym is)
+    (subst (λ (l : List (List Op)). WaitBehind h l (queue_with old txn seq).colls) (sym one) (waits_more h (map (λ x. x.ops) old.txns) old.colls txn.ops before accepted))

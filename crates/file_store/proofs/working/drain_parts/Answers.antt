@@ -1,4 +1,4 @@
-use Rattle.std.proofs.Common.{◌≡◌, ℕ, ◌+◌, ◌-◌, sym, ◌∙◌, ap, subst, arith, rules}
+use Rattle.std.proofs.Common.{◌≡◌, ℕ, ◌+◌, ◌-◌, ◌<◌, ◌^◌, length, sym, ◌∙◌, ap, subst, arith, rules}
 use Rattle.store_turns.specs.Waiting.{AllFit}
 use Rattle.file_store.specs.Store.{Store, working}
 use Rattle.file_store.proofs.Draining.{count_is, last_is, due, on_long, leaves, holds_after, drained, counted_after}
@@ -19,7 +19,7 @@ returns-in-Err-clause-exit g c = λ tells told h k.
     let same = c.waiting-waiting.ensures.txns in
     let t = g.T.FileTree.disk c.args.tree.now in
     let d = (g.D.Device.state c.args.dev.now).disk in
-    let small = omega (arith, last_is s ws same c.requires.counted, c.last-last.ensures.number, c.last-last.ensures.small) in
+    let small : s.numbers.journalled + length ws < 2 ^ 63 = omega (arith, last_is s ws same c.requires.counted, c.last-last.ensures.number, c.last-last.ensures.small) in
     let on = on_long s ws same h t d k (g.met.T.FileTree.sound c.args.tree.now (search rules)).now c.waiting-waiting.ensures.meets small in
     leaves s ws same h t d k c.drain.new.core.journalled (g.T.FileTree.disk c.drain.new.tree) _ c.drain.ensures.grows
     (c.drain.ensures.exit (search rules) (search rules) s.ring.head.fsid _ on (due s ws same h t d k c.waiting-waiting.ensures.spells))
@@ -31,7 +31,7 @@ returns-clause-exit g c = λ tells told h k.
     let same = c.waiting-waiting.ensures.txns in
     let t = g.T.FileTree.disk c.args.tree.now in
     let d = (g.D.Device.state c.args.dev.now).disk in
-    let small = omega (arith, last_is s ws same c.requires.counted, c.last-last.ensures.number, c.last-last.ensures.small) in
+    let small : s.numbers.journalled + length ws < 2 ^ 63 = omega (arith, last_is s ws same c.requires.counted, c.last-last.ensures.number, c.last-last.ensures.small) in
     let on = on_long s ws same h t d k (g.met.T.FileTree.sound c.args.tree.now (search rules)).now c.waiting-waiting.ensures.meets small in
     leaves s ws same h t d k c.drain.new.core.journalled (g.T.FileTree.disk c.drain.new.tree) _ c.drain.ensures.grows
     (c.drain.ensures.exit (search rules) (search rules) s.ring.head.fsid _ on (due s ws same h t d k c.waiting-waiting.ensures.spells))
@@ -57,7 +57,7 @@ returns-clause-holds g c = λ tells told h k.
     let t = g.T.FileTree.disk c.args.tree.now in
     let d = (g.D.Device.state c.args.dev.now).disk in
     let e = c.in-Ok.ensures in
-    let small = omega (arith, last_is s ws same c.requires.counted, c.last-last.ensures.number, c.last-last.ensures.small) in
+    let small : s.numbers.journalled + length ws < 2 ^ 63 = omega (arith, last_is s ws same c.requires.counted, c.last-last.ensures.number, c.last-last.ensures.small) in
     let on = on_long s ws same h t d k (g.met.T.FileTree.sound c.args.tree.now (search rules)).now c.waiting-waiting.ensures.meets small in
     holds_after s ws same h t d k c.drain.new.core c.drain.new.ring c.applied.new.self (g.T.FileTree.disk c.drain.new.tree) (g.D.Device.state c.drain.new.dev).disk
     (drained c.args.parts.now.set c.args.numbers.now c.drain.new.core c.args.ring.now c.drain.new.ring c.args.queue.now c.applied.new.self ws

@@ -4,7 +4,7 @@ use Rattle.fs_model.specs.Objects.{Objects}
 use Rattle.store_history.specs.History.{at, end_of}
 use Rattle.tree_shows.specs.Shows.{Shows}
 use Rattle.apply_ops.specs.Next.{IsReady}
-use Rattle.file_store.proofs.Answering.{damaged_back, tree_back, works_on, whole_now}
+use Rattle.file_store.proofs.Answering.{damaged_via, whole_now}
 use Rattle.file_store.proofs.Shown.{shown}
 use Rattle.file_store.proofs.Stilled.{is_ready_stays}
 use Rattle.file_store.proofs.store.FileStore.list.Goals as goal
@@ -27,4 +27,4 @@ pub returns-in-Err-clause-undamaged : goal.returns-in-Err-clause-undamaged
 returns-in-Err-clause-undamaged g c = λ tells works p is.
     let t = g.T.FileTree.disk c.args.tree.now in
     let ready = subst (λ (s : Settings). IsReady s t) (sym c.place.ensures) (c.requires.tree (search rules) works) in
-    c.list.ensures.undamaged (search rules) (whole_now c.place.result.1 t (g.met.T.FileTree.sound c.args.tree.now (search rules)) ready) ready.own.clear p (damaged_back c.in-Err.fault p is)
+    c.list.ensures.undamaged (search rules) (whole_now c.place.result.1 t (g.met.T.FileTree.sound c.args.tree.now (search rules)) ready) ready.own.clear p (damaged_via c.from.result c.in-Err.fault p c.from.ensures is)
