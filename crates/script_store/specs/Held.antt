@@ -1,5 +1,5 @@
 -- What a script's store holds, and what a crash leaves of it.
-use Rattle.std.specs.Prelude.{◌≡◌, ◌++◌, List, Option}
+use Rattle.std.specs.Prelude.{◌≡◌, ◌++◌}
 use Rattle.tree_api.specs.Disk.{Disk as Files}
 use Rattle.dev_api.specs.DeviceState.{DeviceState}
 use Rattle.store_history.specs.History.{History, end_of}
