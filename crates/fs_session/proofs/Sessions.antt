@@ -16,10 +16,10 @@ use Rattle.fs_script.specs.declared.statement.Statement.{Statement}
 use Rattle.fs_script.specs.declared.statement.Statement.TheVariants.{Do, Begin, End, Drain, Read, Stat, Attrs, Omap, List as ListIn, Colls, Acked}
 use Rattle.fs_script.specs.declared.statement.Line.{Line}
 use Rattle.fs_script.specs.declared.answer.Answer.{Answer}
-use Rattle.fs_script.specs.declared.answer.Answer.TheVariants.{Queued, NotBuilt, TooLarge, QueueFull, NumbersSpent, Drained}
+use Rattle.fs_script.specs.declared.answer.Answer.TheVariants.{Queued, TooLarge, QueueFull, NumbersSpent, Drained}
 use Rattle.fs_script.specs.Printed.{answer_text}
 use Rattle.fs_session.specs.Room.{queue_limit, last_number, payload_len, room_for}
-use Rattle.fs_session.specs.Answers.{Session, IsCounted, Step, silent, answering, colls_queued, refused_or, built_or, queue_answer, queued_if, queue_step, txn_of, op_step, end_step, bytes_answer, size_answer, attrs_answer, omap_answer, page_answer, cursor_oid, step, followed_by, run_lines, session_after, queued_by, answers, answers_text}
+use Rattle.fs_session.specs.Answers.{Session, IsCounted, Step, answering, colls_queued, refused_or, built_or, queue_answer, queued_if, txn_of, op_step, end_step, bytes_answer, size_answer, attrs_answer, omap_answer, page_answer, cursor_oid, step, followed_by, run_lines, session_after, queued_by, answers, answers_text}
 
 -- lines behind others
 

@@ -1,12 +1,11 @@
 -- Transactions that wait, and one more behind them.
-use Rattle.std.proofs.Common.{◌≡◌, ◌≢◌, ◌⊎◌, inl, inr, ℕ, zero, suc, ◌+◌, ◌<◌, ◌≤◌, ◌^◌, Bool, true, false, cond, Option, None, Some, List, [], ◌∷◌, ◌++◌, length, drop, get_or, refl, sym, ◌∙◌, ap, subst, arith}
+use Rattle.std.proofs.Common.{◌≡◌, ◌≢◌, ◌⊎◌, inl, inr, ℕ, zero, suc, ◌+◌, ◌<◌, ◌≤◌, ◌^◌, Bool, true, false, cond, Option, None, List, [], ◌∷◌, ◌++◌, length, drop, get_or, refl, sym, ◌∙◌, ap, subst, arith}
 use Rattle.std.specs.Prelude.{nat_lt, nat_le, ◌||◌}
 use Rattle.std.proofs.lemmas.Bool.{ltb-false, leb-false}
-use Rattle.std.proofs.lemmas.List.{map-append, length-map, length-append}
+use Rattle.std.proofs.lemmas.List.{length-map, length-append}
 use Rattle.fs_model.specs.declared.op.Txn.{Txn}
 use Rattle.fs_model.specs.declared.op.Why.{Why}
-use Rattle.fs_model.specs.Colls.{CollSet}
-use Rattle.fs_model.specs.Check.{colls_after, txn_refusal}
+use Rattle.fs_model.specs.Check.{txn_refusal}
 use Rattle.built_ops.specs.Built.{unbuilt_in, CanDo}
 use Rattle.ring_frame.specs.Frame.{need}
 use Rattle.txn_codec.specs.Spelling.{payload}
@@ -16,7 +15,7 @@ use Rattle.fs_session.specs.Answers.{refused_or, built_or, answer_for}
 use Rattle.fs_session.specs.Room.{last_number, payload_len, queue_limit, room_for}
 use Rattle.store_turns.specs.declared.numbers.Queued.{Queued}
 use Rattle.store_turns.specs.Waiting.{IsAt}
-use Rattle.store_queue.specs.Waiting.{Waiting, with_txn, txns_of, IsSpelled, IsQueue}
+use Rattle.store_queue.specs.Waiting.{Waiting, txns_of, IsSpelled, IsQueue}
 
 -- places
 
@@ -90,11 +89,6 @@ has_room size waiting last len seq e =
 
 -- what is kept
 
-pub kept_empty : (ws : List Queued) (last size : ℕ) → ws ≡ [] → last < 2 ^ 63 → IsQueue ws last size
-kept_empty ws last size none low =
-    subst (λ (l : List Queued). IsQueue l last size) (sym none)
-    (record { spells = λ i q at. absurd (no_at i q at); fits = λ i q at. absurd (no_at i q at); meets = λ i q at. absurd (no_at i q at); few = omega arith; numbers = low })
-
 pub kept_more : (ws new : List Queued) (q : Queued) (last size seq : ℕ) → IsQueue ws last size → new ≡ ws ++ q ∷ [] → IsSpelled q → CanDo q.txn.ops
     → room_for size (length (txns_of ws)) last (length q.payload) ≡ answers.Queued seq → IsQueue new seq size
 kept_more ws new q last size seq kept are spelled can number =
@@ -127,26 +121,3 @@ answer_is w txn bytes size waiting last accepted built spelled e f g =
     ∙ ap (λ (b : List ℕ). room_for w.size (length w.txns) w.last (length b)) spelled
     ∙ ap (λ (o : Option ℕ). built_or o room) (sym built)
     ∙ ap (λ (o : Option (ℕ × Why)). refused_or o (built_or (unbuilt_in txn.ops) room)) (sym accepted)
-
-pub refused_answer : (w : Waiting) (txn : Txn) (op : ℕ) (why : Why) → txn_refusal w.colls txn.ops ≡ Some (op, why)
-    → answer_for w.colls w.size (length w.txns) w.last txn ≡ answers.RefusedOp op why
-unfolding payload_len
-refused_answer w txn op why refused =
-    ap (λ (o : Option (ℕ × Why)). refused_or o (built_or (unbuilt_in txn.ops) (room_for w.size (length w.txns) w.last (payload_len txn)))) refused
-
-pub unbuilt_answer : (w : Waiting) (txn : Txn) (op : ℕ) → txn_refusal w.colls txn.ops ≡ None → unbuilt_in txn.ops ≡ Some op
-    → answer_for w.colls w.size (length w.txns) w.last txn ≡ answers.NotBuilt
-unfolding payload_len
-unbuilt_answer w txn op accepted unbuilt =
-    let room = room_for w.size (length w.txns) w.last (payload_len txn) in
-    ap (λ (o : Option (ℕ × Why)). refused_or o (built_or (unbuilt_in txn.ops) room)) accepted
-    ∙ ap (λ (o : Option ℕ). built_or o room) unbuilt
-
-pub more_waits : (colls after : CollSet) (ws new : List Queued) (q : Queued) (last seq size : ℕ) → after ≡ colls_after colls q.txn.ops → new ≡ ws ++ q ∷ []
-    → {A : Waiting} → A ≡ record { colls = after; txns = txns_of new; last = seq; size = size }
-    → A ≡ with_txn (record { colls = colls; txns = txns_of ws; last = last; size = size }) q.txn seq
-more_waits colls after ws new q last seq size turned are is =
-    is
-    ∙ ap (λ (c : CollSet). record { colls = c; txns = txns_of new; last = seq; size = size }) turned
-    ∙ ap (λ (l : List Txn). record { colls = colls_after colls q.txn.ops; txns = l; last = seq; size = size })
-    (ap txns_of are ∙ map-append (λ (w : Queued). w.txn) ws (q ∷ []))
