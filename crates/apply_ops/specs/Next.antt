@@ -4,6 +4,7 @@ use Rattle.fs_names.specs.declared.settings.Settings.{Settings}
 use Rattle.fs_model.specs.declared.op.Op.{Op}
 use Rattle.tree_api.specs.Disk.{Disk, Everywhere, Keeps}
 use Rattle.op_effects.specs.Ready.{Ready}
+use Rattle.store_files.specs.Stores.{IsStore}
 use Rattle.store_history.specs.History.{History}
 use Rattle.store_turns.specs.declared.numbers.How.{How}
 use Rattle.tree_places.specs.Images.{IsOwn, Image, reads}
@@ -13,6 +14,10 @@ use Rattle.tree_places.specs.Underway.{IsTurn, Underway}
 pub record IsReady (set : Settings) (d : Disk) : Type 0 where
   pub ready : Ready set d
   pub own : IsOwn d.tree
+
+-- whichever store each image was it is at any moment
+abbrev pub StaysStore : Disk → Disk → Type 0
+StaysStore old new = (fsid : List ℕ) (set : Settings) → Everywhere old (λ t. IsStore t fsid set) → Keeps (λ t. IsStore t fsid set) old new
 
 -- a place in a history: that of the operation at i of the transaction seq, with which images go along from lo to hi
 pub record Spot : Type 0 where

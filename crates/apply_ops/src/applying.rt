@@ -4,7 +4,7 @@ ghost use Rattle.fs_model.specs.Check.{IsWithinLimits};
 ghost use Rattle.fault_count.specs.Counted.{Counted};
 ghost use Rattle.tree_api.specs.Tree.{Path};
 ghost use Rattle.built_ops.specs.Built.{is_built};
-ghost use Rattle.apply_ops.specs.Next.{Spot, IsNext, IsReady, SpotKept, SpotDone};
+ghost use Rattle.apply_ops.specs.Next.{Spot, IsNext, IsReady, SpotKept, SpotDone, StaysStore};
 
 use crate::editing::edit;
 use coll_ops::{drop_coll, make_coll};
@@ -32,6 +32,7 @@ pub fn apply<T: FileTree>(
     ensures keeps { T.tells tree.new → (s : Spot) → IsNext set.now s op.now (T.disk tree.old) → SpotKept set.now s (T.disk tree.old) (T.disk tree.new) }
     ensures done { T.tells tree.new → (s : Spot) → IsNext set.now s op.now (T.disk tree.old) → OnOk result (SpotDone set.now s (T.disk tree.old) (T.disk tree.new)) }
     ensures ready { T.tells tree.new → OnOk result (IsReady set.now (T.disk tree.new)) }
+    ensures stores { T.tells tree.new → StaysStore (T.disk tree.old) (T.disk tree.new) }
     ensures undamaged { T.tells tree.new → (p : Path) → result ≢ Err (IndexFault.Damaged p) }
 {
     match op {

@@ -10,7 +10,7 @@ ghost use Rattle.tree_stands.specs.Trees.{dir_of};
 ghost use Rattle.op_effects.specs.Clear.{KeepsFree};
 ghost use Rattle.op_effects.specs.Ready.{Ready, OffStays};
 ghost use Rattle.apply_ops.specs.Editing.{edited, file_after, IsEdited};
-ghost use Rattle.apply_ops.specs.Next.{Spot, IsNext, IsReady, SpotKept, SpotDone};
+ghost use Rattle.apply_ops.specs.Next.{Spot, IsNext, IsReady, SpotKept, SpotDone, StaysStore};
 
 use crate::looking::is_there;
 use fs_model::Op;
@@ -94,6 +94,7 @@ pub fn edit<T: FileTree>(
     ensures keeps { T.tells tree.new → (s : Spot) → IsNext set.now s op.now (T.disk tree.old) → SpotKept set.now s (T.disk tree.old) (T.disk tree.new) }
     ensures done { T.tells tree.new → (s : Spot) → IsNext set.now s op.now (T.disk tree.old) → OnOk result (SpotDone set.now s (T.disk tree.old) (T.disk tree.new)) }
     ensures ready { T.tells tree.new → OnOk result (IsReady set.now (T.disk tree.new)) }
+    ensures stores { T.tells tree.new → StaysStore (T.disk tree.old) (T.disk tree.new) }
     ensures undamaged { T.tells tree.new → (p : Path) → result ≢ Err (IndexFault.Damaged p) }
 {
     name_fits(op);

@@ -3,7 +3,7 @@ ghost use Rattle.std.specs.Prelude.{◌≡◌, ◌≢◌, ◌≤◌, ◌^◌, le
 ghost use Rattle.fault_count.specs.Counted.{Counted};
 ghost use Rattle.built_ops.specs.Built.{AllFit};
 ghost use Rattle.tree_api.specs.Tree.{Path};
-ghost use Rattle.apply_ops.specs.Next.{IsReady, TxnKept, TxnDone};
+ghost use Rattle.apply_ops.specs.Next.{IsReady, StaysStore, TxnKept, TxnDone};
 
 use crate::applying::apply;
 use fs_model::Op;
@@ -30,6 +30,7 @@ pub fn apply_all<T: FileTree>(
     ensures keeps { T.tells tree.new → TxnKept set.now seq ops.now (T.disk tree.old) (T.disk tree.new) }
     ensures done { T.tells tree.new → TxnDone set.now seq ops.now result (T.disk tree.old) (T.disk tree.new) }
     ensures ready { T.tells tree.new → OnOk result (IsReady set.now (T.disk tree.new)) }
+    ensures stores { T.tells tree.new → StaysStore (T.disk tree.old) (T.disk tree.new) }
     ensures undamaged { T.tells tree.new → (p : Path) → result ≢ Err (IndexFault.Damaged p) }
 {
     for (i, op) in ops.iter().enumerate() {

@@ -11,4 +11,4 @@ are_fit [] can = tt
 are_fit (ops ∷ txns) can = (can 0 ops refl, are_fit txns (λ i more is. can (suc i) more is))
 
 pub fit_law : FitLaw
-fit_law set fsid t c o n last s = are_fit s.txns s.good.fit
+fit_law set fsid t c o n last s = are_fit s.txns s.good.image.fit

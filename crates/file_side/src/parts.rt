@@ -2,7 +2,7 @@
 ghost use Rattle.std.specs.Prelude.{◌≡◌, ◌≢◌, ◌⊎◌, ◌↔◌, ℕ, ◌-◌, ◌<◌, ◌≤◌, ◌^◌, List, Err, IfOk, OnOk, IfSome, IfNone, IsTrue, IsOk, IsErr, IsErrOf};
 ghost use Rattle.built_ops.specs.Built.{CanDo};
 ghost use Rattle.commit_point.specs.Number.{HasNumber};
-ghost use Rattle.tree_places.specs.Images.{Image, IsLaid, reads as tree_reads};
+ghost use Rattle.tree_places.specs.Images.{StoreImage, IsLaid, reads as tree_reads};
 ghost use Rattle.tree_places.proofs.Ready.{ready as ready_alone};
 ghost use Rattle.tree_places.proofs.Theory.{theory_law};
 ghost use Rattle.apply_ops.specs.Next.{IsReady};
@@ -10,25 +10,23 @@ ghost use Rattle.apply_ops.specs.Next.{IsReady};
 use apply_ops::apply_all;
 use built_ops::can_do;
 use fs_model::Op;
-use fs_names::Settings;
 use index_fault::IndexFault;
 use std::alloc::Global;
+use store_files::Identity;
 use store_turns::{How, Side};
 use tree_api::{Failed, FileTree};
 
 /// What a store has beside its tree and its journal.
 #[derive(Clone, Copy, Debug, PartialEq, Eq)]
 pub struct Parts {
-    /// Which store it is.
-    pub fsid: [u8; 16],
-    /// The settings, which never change.
-    pub set: Settings,
+    /// Which store it is, with its settings, which never change.
+    pub identity: Identity,
 }
 
 impl<T: FileTree> Side<T> for Parts {
-    ghost set = { λ parts. record { fsid = parts.fsid; settings = parts.set } };
+    ghost set = { λ parts. parts.identity };
 
-    ghost image = { λ id. Image id.settings };
+    ghost image = { StoreImage };
 
     ghost reads = { λ id. tree_reads id.settings };
 
@@ -45,7 +43,7 @@ impl<T: FileTree> Side<T> for Parts {
     }
 
     fn look_over(&self, alloc: Global, tree: &mut T) -> Result<(), IndexFault> {
-        store_walk::look_over(alloc, tree, &self.set)
+        store_walk::look_over(alloc, tree, &self.identity.settings)
     }
 
     fn apply(
@@ -56,7 +54,7 @@ impl<T: FileTree> Side<T> for Parts {
         seq: u64,
         ops: &[Op],
     ) -> Result<(), IndexFault> {
-        apply_all(alloc, tree, &self.set, seq, ops)
+        apply_all(alloc, tree, &self.identity.settings, seq, ops)
     }
 
     fn sync_all(&self, tree: &mut T) -> Result<(), Failed> {
@@ -77,5 +75,5 @@ impl<T: FileTree> Side<T> for Parts {
 
     ghost ready_is = { λ id t tells laid only. record { ready = ready_alone id.settings (T.disk t) (T.sound t tells) only laid; own = laid.own } };
 
-    ghost theory = { λ id. theory_law id.settings };
+    ghost theory = { theory_law };
 }

@@ -43,16 +43,16 @@ impl Model for FileStore {
 
     ghost coded = { Prim.hlevel (codes, colls_code) };
 
-    ghost view = { λ s. record { set = s.parts.set; numbers = s.numbers; ring = s.ring; queue = s.queue; first = s.first } };
+    ghost view = { λ s. record { identity = s.parts.identity; numbers = s.numbers; ring = s.ring; queue = s.queue; first = s.first } };
 
-    ghost invariant = { λ s. IsSound (record { set = s.parts.set; numbers = s.numbers; ring = s.ring; queue = s.queue; first = s.first }) };
+    ghost invariant = { λ s. IsSound (record { identity = s.parts.identity; numbers = s.numbers; ring = s.ring; queue = s.queue; first = s.first }) };
 }
 
 impl FileStore {
     /// A store on a tree and a ring that were just mounted.
     pub fn new(alloc: Global, parts: Parts, numbers: Numbers, ring: Ring, queue: Queue) -> FileStore
-        requires counted { IsCounted (working parts.set numbers ring queue) }
-        ensures { result ≡ working parts.set numbers ring queue }
+        requires counted { IsCounted (working parts.identity numbers ring queue) }
+        ensures { result ≡ working parts.identity numbers ring queue }
     {
         FileStore {
             alloc,
@@ -87,9 +87,9 @@ impl FileStore {
 
     // Where memory comes from, and how names are placed.
     pub(crate) fn place(&self) -> (Global, Settings)
-        ensures { result.1 ≡ self.now.set }
+        ensures { result.1 ≡ self.now.identity.settings }
     {
-        (self.alloc, self.parts.set)
+        (self.alloc, self.parts.identity.settings)
     }
 
     /// Queues a transaction, if it is accepted after all that is queued and there is room, and gives its number. Neither tree

@@ -28,21 +28,21 @@ pub(crate) fn drain_parts<T: FileTree, D: Device>(
     tree: &mut T,
     dev: &mut D,
 ) -> Result<(), TurnFault>
-    requires counted { IsCounted (working parts.now.set numbers.old ring.old queue.old) }
-    requires ready { T.tells tree.old → IsReady parts.now.set (T.disk tree.old) }
+    requires counted { IsCounted (working parts.now.identity numbers.old ring.old queue.old) }
+    requires ready { T.tells tree.old → IsReady parts.now.identity.settings (T.disk tree.old) }
     requires extent { (D.state dev.old).size ≡ ring.old.head.size }
     requires ring { D.tells dev.old → RingHolds ring.old (D.state dev.old).disk }
-    ensures drained { OnOk result (IsDrained (working parts.now.set numbers.old ring.old queue.old) (working parts.now.set numbers.new ring.new queue.new)) }
-    ensures counted { OnOk result (IsCounted (working parts.now.set numbers.new ring.new queue.new)) }
+    ensures drained { OnOk result (IsDrained (working parts.now.identity numbers.old ring.old queue.old) (working parts.now.identity numbers.new ring.new queue.new)) }
+    ensures counted { OnOk result (IsCounted (working parts.now.identity numbers.new ring.new queue.new)) }
     ensures holds { T.tells tree.new → D.tells dev.new → (h : History)
-        → Holds h (working parts.now.set numbers.old ring.old queue.old) (T.disk tree.old) (D.state dev.old).disk
-        → OnOk result (Holds (with_waiting h (working parts.now.set numbers.old ring.old queue.old)) (working parts.now.set numbers.new ring.new queue.new) (T.disk tree.new) (D.state dev.new).disk) }
+        → Holds h (working parts.now.identity numbers.old ring.old queue.old) (T.disk tree.old) (D.state dev.old).disk
+        → OnOk result (Holds (with_waiting h (working parts.now.identity numbers.old ring.old queue.old)) (working parts.now.identity numbers.new ring.new queue.new) (T.disk tree.new) (D.state dev.new).disk) }
     ensures exit { T.tells tree.new → D.tells dev.new → (h : History)
-        → Holds h (working parts.now.set numbers.old ring.old queue.old) (T.disk tree.old) (D.state dev.old).disk
-        → Leaves (with_waiting h (working parts.now.set numbers.old ring.old queue.old)) numbers.new.journalled
-        (working parts.now.set numbers.old ring.old queue.old) (T.disk tree.new) (D.state dev.new).disk }
+        → Holds h (working parts.now.identity numbers.old ring.old queue.old) (T.disk tree.old) (D.state dev.old).disk
+        → Leaves (with_waiting h (working parts.now.identity numbers.old ring.old queue.old)) numbers.new.journalled
+        (working parts.now.identity numbers.old ring.old queue.old) (T.disk tree.new) (D.state dev.new).disk }
     ensures grows { numbers.old.journalled ≤ numbers.new.journalled }
-    ensures ready { T.tells tree.new → OnOk result (IsReady parts.now.set (T.disk tree.new)) }
+    ensures ready { T.tells tree.new → OnOk result (IsReady parts.now.identity.settings (T.disk tree.new)) }
     ensures ring { D.tells dev.new → OnOk result (RingHolds ring.new (D.state dev.new).disk) }
     ensures turned { IfErr result IsTurned }
     ensures undamaged { T.tells tree.new → (p : Path) → result ≢ Err (TurnFault.Damaged p) }

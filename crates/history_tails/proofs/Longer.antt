@@ -1,7 +1,6 @@
 -- What both sides hold of a history they hold of a longer one.
 use Rattle.std.proofs.Common.{◌≡◌, ℕ, zero, suc, ◌+◌, ◌-◌, ◌<◌, ◌≤◌, ◌^◌, List, [], ◌∷◌, ◌++◌, take, drop, length, map, refl, sym, ◌∙◌, ap, subst, arith, append-nil, append_assoc, length-append, length-drop}
 use Rattle.std.proofs.lemmas.List.{take-append-le, drop-append-le}
-use Rattle.fs_names.specs.declared.settings.Settings.{Settings}
 use Rattle.fs_model.specs.declared.op.Op.{Op}
 use Rattle.fs_model.specs.Objects.{Objects}
 use Rattle.fs_model.specs.Rows.{fold_ops}
@@ -12,6 +11,7 @@ use Rattle.tree_api.specs.Tree.{Tree}
 use Rattle.tree_api.specs.Disk.{Disk as Files}
 use Rattle.dev_api.specs.Disk.{Disk}
 use Rattle.ring_journal.specs.State.{State}
+use Rattle.store_files.specs.declared.reading.Identity.{Identity}
 use Rattle.store_history.specs.History.{History, end_of, part, at}
 use Rattle.store_history.specs.Journal.{Spells, RingSide}
 use Rattle.store_turns.specs.declared.numbers.Numbers.{Numbers}
@@ -19,7 +19,7 @@ use Rattle.store_turns.specs.declared.numbers.Queued.{Queued}
 use Rattle.store_turns.specs.State.{Holding}
 use Rattle.store_turns.specs.Waiting.{IsAt, AllMeet}
 use Rattle.tree_places.specs.Line.{with_txn}
-use Rattle.tree_places.specs.Images.{Image, reads}
+use Rattle.tree_places.specs.Images.{StoreImage, reads}
 use Rattle.tree_places.specs.Laws.{TheoryLaw}
 use Rattle.tree_places.proofs.Theory.{theory_law}
 use Rattle.tree_places.proofs.Operations.{history_law}
@@ -51,21 +51,21 @@ ring_longer fsid h ops p synced hi s d side = record {
 }
 
 abbrev pub LongerLaw : Type 0
-LongerLaw = (set : Settings) (h : History) (ops : List Op) (n lo hi : ℕ) (t : Tree) → AreAllowed (at h (end_of h)) ops → CanDo ops
-    → lo ≤ hi → hi ≤ end_of h → Image set h n lo hi t → Image set (with_txn h ops) n lo hi t
+LongerLaw = (id : Identity) (h : History) (ops : List Op) (n lo hi : ℕ) (t : Tree) → AreAllowed (at h (end_of h)) ops → CanDo ops
+    → lo ≤ hi → hi ≤ end_of h → StoreImage id h n lo hi t → StoreImage id (with_txn h ops) n lo hi t
 
-module _ (longer_law : LongerLaw) (set : Settings) (fsid : List ℕ) (core : Numbers) (t : Files) (sound : t.may t.tree) (s : State) (d : Disk) where
+module _ (longer_law : LongerLaw) (id : Identity) (fsid : List ℕ) (core : Numbers) (t : Files) (sound : t.may t.tree) (s : State) (d : Disk) where
   pub holding_one : (h : History) (ops : List Op) → AreAllowed (at h (end_of h)) ops → CanDo ops → end_of h + 1 < 2 ^ 63
-      → Holding (Image set) (reads set) fsid h core t s d → Holding (Image set) (reads set) fsid (with_txn h ops) core t s d
+      → Holding (StoreImage id) (reads id.settings) fsid h core t s d → Holding (StoreImage id) (reads id.settings) fsid (with_txn h ops) core t s d
   holding_one h ops allowed can small k =
       let n = core.committed in
       let m = core.journalled in
       let low : n ≤ m = k.ring.low in
-      let now : Image set h n m m t.tree = (theory_law set).whole h n n m t.tree low (k.images t.tree sound) k.reads in
+      let now : StoreImage id h n m m t.tree = (theory_law id).whole h n n m t.tree low (k.images t.tree sound) k.reads in
       record {
         small = omega (arith, small, end_longer h ops);
-        images = λ u may. longer_law set h ops n n m u allowed can low k.ring.fits (k.images u may);
-        reads = (longer_law set h ops n m m t.tree allowed can (omega arith) k.ring.fits now).past;
+        images = λ u may. longer_law id h ops n n m u allowed can low k.ring.fits (k.images u may);
+        reads = (longer_law id h ops n m m t.tree allowed can (omega arith) k.ring.fits now).image.past;
         ring = ring_longer fsid h ops n m m s d k.ring;
       }
 
@@ -74,15 +74,15 @@ module _ (longer_law : LongerLaw) (set : Settings) (fsid : List ℕ) (core : Num
       ap (λ (l : List (List Op)). let longer : History = record { base = h.base; origin = h.origin; txns = l } in longer) (append_assoc h.txns (ops ∷ []) txns)
 
   pub holding_more : (h : History) (txns : List (List Op)) → AllAllowed (at h (end_of h)) txns → ((i : ℕ) (ops : List Op) → drop i txns ≡ ops ∷ drop (i + 1) txns → CanDo ops)
-      → end_of h + length txns < 2 ^ 63 → Holding (Image set) (reads set) fsid h core t s d → Holding (Image set) (reads set) fsid (with_more h txns) core t s d
+      → end_of h + length txns < 2 ^ 63 → Holding (StoreImage id) (reads id.settings) fsid h core t s d → Holding (StoreImage id) (reads id.settings) fsid (with_more h txns) core t s d
   holding_more h [] all can small k =
-      subst (λ (l : List (List Op)). Holding (Image set) (reads set) fsid (record { base = h.base; origin = h.origin; txns = l }) core t s d) (sym (append-nil h.txns)) k
+      subst (λ (l : List (List Op)). Holding (StoreImage id) (reads id.settings) fsid (record { base = h.base; origin = h.origin; txns = l }) core t s d) (sym (append-nil h.txns)) k
   holding_more h (ops ∷ txns) (here, all) can small k =
       let next : (j : ℕ) → suc (j + 1) ≡ suc j + 1 = λ j. omega arith in
       let one = holding_one h ops here (can 0 ops refl) (omega (arith, small)) k in
       let after : at (with_txn h ops) (end_of (with_txn h ops)) ≡ fold_ops (at h (end_of h)) ops = at_more h (ops ∷ []) in
       let rest : AllAllowed (at (with_txn h ops) (end_of (with_txn h ops))) txns = subst (λ (O : Objects). AllAllowed O txns) (sym after) all in
-      subst (λ (g : History). Holding (Image set) (reads set) fsid g core t s d) (again h ops txns)
+      subst (λ (g : History). Holding (StoreImage id) (reads id.settings) fsid g core t s d) (again h ops txns)
       (holding_more (with_txn h ops) txns rest (λ i q is. can (suc i) q (is ∙ ap (λ (k : ℕ). q ∷ drop k (ops ∷ txns)) (next i)))
       (omega (arith, small, end_longer h ops)) one)
 

@@ -5,15 +5,15 @@
 #![tactic(auto)]
 
 ghost use Rattle.std.specs.Prelude.{◌≡◌, ℕ, ◌≤◌, List, [], ◌∷◌, ◌++◌};
-ghost use Rattle.fs_names.specs.declared.settings.Settings.{Settings};
 ghost use Rattle.fs_model.specs.declared.op.Op.{Op};
 ghost use Rattle.fs_model.specs.Objects.{Objects};
 ghost use Rattle.fs_model.specs.Colls.{CollSet, colls_of};
 ghost use Rattle.fs_model.specs.Check.{IsAccepted, colls_after};
 ghost use Rattle.tree_api.specs.Tree.{Tree};
+ghost use Rattle.store_files.specs.declared.reading.Identity.{Identity};
 ghost use Rattle.store_history.specs.History.{History, at, end_of};
 ghost use Rattle.store_history.specs.Pair.{StandsFor};
-ghost use Rattle.tree_places.specs.Images.{Image};
+ghost use Rattle.tree_places.specs.Images.{StoreImage};
 ghost use Rattle.history_tails.specs.Tails.{IsTailOf, WaitBehind, begun, with_more};
 
 /// What stands for a long history stands for its end, from where that begins on.
@@ -22,8 +22,8 @@ pub fn tail_law()
     ensures begun { (long : History) (last : ℕ) (O : Objects) → end_of long ≡ last → at long last ≡ O → IsTailOf (begun last O) long }
     ensures more { (h long : History) (txns : List (List Op)) → IsTailOf h long → IsTailOf (with_more h txns) (with_more long txns) }
     ensures objects { (h long : History) (n : ℕ) → IsTailOf h long → h.base ≤ n → at long n ≡ at h n }
-    ensures stands { (set : Settings) (fsid : List ℕ) (h long : History) (acked : ℕ) (t : Tree) (c : List ℕ) → IsTailOf h long → h.base ≤ acked
-        → StandsFor (Image set) fsid long acked t c → StandsFor (Image set) fsid h acked t c }
+    ensures stands { (id : Identity) (fsid : List ℕ) (h long : History) (acked : ℕ) (t : Tree) (c : List ℕ) → IsTailOf h long → h.base ≤ acked
+        → StandsFor (StoreImage id) fsid long acked t c → StandsFor (StoreImage id) fsid h acked t c }
 {}
 
 /// What is accepted by the collections may wait behind all that waits, and what is done waits no more.

@@ -6,7 +6,7 @@ ghost use Rattle.tree_api.specs.Disk.{Everywhere, Keeps, Leaves, Stays, Still};
 ghost use Rattle.ring_images.specs.Headers.{IsSize};
 ghost use Rattle.ring_images.specs.Held.{EachSound};
 ghost use Rattle.store_history.specs.Pair.{Closed};
-ghost use Rattle.tree_places.specs.Images.{Image};
+ghost use Rattle.tree_places.specs.Images.{StoreImage};
 ghost use Rattle.store_files.specs.News.{IsNew};
 ghost use Rattle.store_files.specs.Stores.{IsStore, IsUsable};
 ghost use Rattle.store_files.specs.Steps.{AllIn, Among, IsBare, Unfinished, store_items, store_paths};
@@ -120,7 +120,7 @@ pub fn make_store<T: FileTree, D: Device>(
         → Keeps (VersionLast fsid.now set.now (D.state dev.old).size (D.state dev.new).disk) (T.disk tree.old) (T.disk tree.new) }
     ensures stores { T.tells tree.new → IsUsable set.now → OnOk result (Everywhere (T.disk tree.new) (λ t. IsStore t fsid.now set.now)) }
     ensures closed { T.tells tree.new → D.tells dev.new → IsUsable set.now → OnOk result
-        (Everywhere (T.disk tree.new) (λ t. EachSound (λ c. Closed (Image set.now) fsid.now t c fin.empty) (D.state dev.new).disk)) }
+        (Everywhere (T.disk tree.new) (λ t. EachSound (λ c. Closed (StoreImage (record { fsid = fsid.now; settings = set.now })) fsid.now t c fin.empty) (D.state dev.new).disk)) }
     ensures told { T.tells tree.new → T.tells tree.old }
     ensures honest { D.tells dev.new → D.tells dev.old }
     ensures extent { (D.state dev.new).size ≡ (D.state dev.old).size }

@@ -6,4 +6,5 @@ pub mod Ready
 pub mod Operations
 pub mod Example
 pub mod Own
+pub mod Stores
 pub mod Underway

@@ -2,16 +2,21 @@
 use Rattle.std.proofs.Common.{◌≡◌, ℕ, suc, ◌+◌, ◌-◌, List, [], length, take, sym, ◌∙◌, ap, subst, arith}
 use Rattle.std.specs.Prelude.{slice_get}
 use Rattle.std.specs.FinMap as fin
+use Rattle.fs_names.specs.declared.coll.Coll.{Coll}
 use Rattle.fs_names.specs.declared.settings.Settings.{Settings}
+use Rattle.fs_names.specs.Reading.{CollFits}
 use Rattle.fs_model.specs.declared.op.Op.{Op}
 use Rattle.tree_api.specs.Tree.{Tree}
+use Rattle.commit_point.specs.Number.{HasNumber}
 use Rattle.store_history.specs.History.{History, replay_of}
+use Rattle.op_effects.specs.Collections.{IsGone}
 use Rattle.op_places.specs.Places.{PastOps}
 use Rattle.op_places.specs.Laws.{IsAt}
 use Rattle.op_places.proofs.Edits as edits
 use Rattle.op_places.proofs.Makes as colls
 use Rattle.op_places.proofs.Fresh.{past_none}
 use Rattle.tree_places.specs.Line.{ops_of, ops_to, count_to, At}
+use Rattle.tree_places.specs.Images.{IsOwn, Image}
 use Rattle.tree_places.specs.Laws.{HistoryLaw, ComesNext, EditLaw, CollLaw}
 use Rattle.tree_places.proofs.Fit.{can_longer, can_none, none_copy}
 use Rattle.tree_places.proofs.Flat.{op_place, count_next, allowed_flat}
@@ -48,6 +53,27 @@ coll_law = record {
       goes_on set h hi k _ t u next (colls.coll_law.is_dropped set h.origin (ops_to h hi) k c t u (is_at set h hi k _ t next) goes none);
 }
 
+no_ops : (n : ℕ) → [] ≡ ops_to (replay_of n fin.empty []) n
+no_ops n =
+    let zero_more : 0 ≡ n - n = omega arith in
+    ap (λ (k : ℕ). ops_of (take k [])) zero_more
+
+none_done : (n : ℕ) → 0 ≡ count_to (replay_of n fin.empty []) n
+none_done n = ap length (no_ops n)
+
+-- a tree without collections has done none of a store's first transactions
+pub begins : (set : Settings) (n : ℕ) (t : Tree) → HasNumber t n → IsOwn t → ((c : Coll) → CollFits c → IsGone set c t) → Image set (replay_of n fin.empty []) n n n t
+begins set n t number own gone = record {
+  base = omega arith;
+  number = number;
+  own = own;
+  fit = can_none n fin.empty;
+  past = record {
+    plain = record { allowed = tt; built = tt };
+    past = subst (λ (k : ℕ). PastOps set fin.empty (ops_to (replay_of n fin.empty []) n) k t) (none_done n) (subst (λ (l : List Op). PastOps set fin.empty l 0 t) (no_ops n) (past_none set t gone));
+  };
+}
+
 -- the transaction seq among those of the history
 before_is : (h : History) (seq : ℕ) → seq - 1 - h.base ≡ seq - (h.base + 1)
 before_is h seq = omega arith
@@ -68,26 +94,15 @@ history_law = record {
   plain = λ h all built. record { allowed = allowed_flat h.origin h.txns all; built = built };
   wider = wider;
   back = back;
-  longer = λ set h ops n lo hi t allowed can order known is. record {
-    base = is.base;
-    number = is.number;
-    own = is.own;
-    fit = can_longer h ops is.fit can;
-    past = longer set h ops lo hi t allowed (none_copy ops can.each) order known is.past;
+  longer = λ id h ops n lo hi t allowed can order known is. record {
+    store = is.store;
+    image = record {
+      base = is.image.base;
+      number = is.image.number;
+      own = is.image.own;
+      fit = can_longer h ops is.image.fit can;
+      past = longer id.settings h ops lo hi t allowed (none_copy ops can.each) order known is.image.past;
+    };
   };
-  begins = λ set n t number own gone. record {
-    base = omega arith;
-    number = number;
-    own = own;
-    fit = can_none n fin.empty;
-    past = record { plain = record { allowed = tt; built = tt }; past = subst (λ (k : ℕ). PastOps set fin.empty (ops_to (replay_of n fin.empty []) n) k t) (none_done n) (subst (λ (l : List Op). PastOps set fin.empty l 0 t) (no_ops n) (past_none set t gone)) };
-  };
+  begins = λ id n t store number own gone. record { store = store; image = begins id.settings n t number own gone };
 }
-  where
-    no_ops : (n : ℕ) → [] ≡ ops_to (replay_of n fin.empty []) n
-    no_ops n =
-        let zero_more : 0 ≡ n - n = omega arith in
-        ap (λ (k : ℕ). ops_of (take k [])) zero_more
-
-    none_done : (n : ℕ) → 0 ≡ count_to (replay_of n fin.empty []) n
-    none_done n = ap length (no_ops n)

@@ -42,7 +42,7 @@ stands t p v is = by (t.at p) refl
 free_look : (t : Tree) (p : Path) (v : Version) → look t p ≡ Some v → v.dir ≡ false → IsFree t p
 free_look t p v is file = let there = stands t p v is in inr (there.0, there.1, there.2 ∙ file)
 
-dir_stays : (e f : Tree) (p : Path) → look f p ≡ look e p → IsDir e p → IsDir f p
+pub dir_stays : (e f : Tree) (p : Path) → look f p ≡ look e p → IsDir e p → IsDir f p
 dir_stays e f p same is = let there = stands f p (e.node is.0) (same ∙ ap (λ (x : Option ℕ). held x e.node) is.1) in (there.0, there.1, there.2 ∙ is.2)
 
 file_stays : (e f : Tree) (p : Path) → look f p ≡ look e p → IsFile e p → IsFile f p
@@ -73,14 +73,14 @@ number_stays : (e f : Tree) (n : ℕ) → look f number_path ≡ look e number_p
 number_stays e f n same number = record { file = number.file; stands = same ∙ number.stands; kind = number.kind; bytes = number.bytes; small = number.small }
 
 -- paths of two steps are no paths of three
-two_not_three : (a b : List ℕ) (p : Path) (step : List ℕ) → length p ≡ 2 → a ∷ b ∷ [] ≢ entry p step
+pub two_not_three : (a b : List ℕ) (p : Path) (step : List ℕ) → length p ≡ 2 → a ∷ b ∷ [] ≢ entry p step
 two_not_three a b p step two same =
     let long : length (entry p step) ≡ length p + 1 = length_push p step in
     let e : 2 ≡ length (entry p step) = ap length same in
     absurd (omega (arith, long, two, e))
 
 -- each of these stands neither in the collection's directory nor among what is built
-off_two : (c : Coll) (b : List ℕ) → ((s : List ℕ) → codes "current" ∷ b ∷ [] ≢ entry (dir_of c) s) × ((s : List ℕ) → codes "current" ∷ b ∷ [] ≢ entry aside s)
+pub off_two : (c : Coll) (b : List ℕ) → ((s : List ℕ) → codes "current" ∷ b ∷ [] ≢ entry (dir_of c) s) × ((s : List ℕ) → codes "current" ∷ b ∷ [] ≢ entry aside s)
 off_two c b = (λ s. two_not_three (codes "current") b (dir_of c) s refl, λ s. two_not_three (codes "current") b aside s refl)
 
 -- so does each collection's directory
@@ -114,7 +114,7 @@ own_dirs c e g f n goes free own also number = (
 
 -- a number is written
 module _ (v : Version) (e f : Tree) (goes : Replaces building number_path v e f) where
-  look_off : (q : Path) → q ≢ building → q ≢ number_path → look f q ≡ look e q
+  pub look_off : (q : Path) → q ≢ building → q ≢ number_path → look f q ≡ look e q
   look_off q one two = by (e.at q) refl
     where
       by : (o : Option ℕ) → e.at q ≡ o → look f q ≡ look e q
@@ -122,10 +122,10 @@ module _ (v : Version) (e f : Tree) (goes : Replaces building number_path v e f)
       by (Some m) at =
           ap (λ (x : Option ℕ). held x f.node) (goes.others q one two ∙ at) ∙ ap Some (goes.nodes q m one two at) ∙ sym (ap (λ (x : Option ℕ). held x e.node) at)
 
-  two_off : (b : List ℕ) → codes "current" ∷ b ∷ [] ≢ building
+  pub two_off : (b : List ℕ) → codes "current" ∷ b ∷ [] ≢ building
   two_off b = two_not_three (codes "current") b aside (codes "seq") refl
 
-  last_off : (b : List ℕ) → length b < 13 → codes "current" ∷ b ∷ [] ≢ number_path
+  pub last_off : (b : List ℕ) → length b < 13 → codes "current" ∷ b ∷ [] ≢ number_path
   last_off b short same =
       let texts : b ≡ codes "commit_op_seq" = (same_from_push current current b (codes "commit_op_seq") same).1 in
       let long : length b ≡ 13 = ap length texts in

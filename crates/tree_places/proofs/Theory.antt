@@ -7,12 +7,13 @@ use Rattle.fs_model.specs.Objects.{Objects}
 use Rattle.tree_api.specs.Tree.{Version, Tree}
 use Rattle.commit_point.specs.Number.{spelled, HasNumber}
 use Rattle.commit_point.proofs.Digits.{eight, spelled_bytes, number_back}
+use Rattle.store_files.specs.declared.reading.Identity.{Identity}
 use Rattle.store_history.specs.History.{at, replay_of}
 use Rattle.store_history.specs.Images.{ImageLaws}
 use Rattle.op_places.specs.Places.{PastOps}
 use Rattle.op_places.proofs.Moving.{past_once}
 use Rattle.tree_places.specs.Line.{ops_of, ops_to, count_to, Past}
-use Rattle.tree_places.specs.Images.{Image}
+use Rattle.tree_places.specs.Images.{Image, StoreImage}
 use Rattle.tree_places.specs.Laws.{TheoryLaw}
 use Rattle.tree_places.proofs.Fit.{can_part}
 use Rattle.tree_places.proofs.Flat.{fold_flat}
@@ -49,8 +50,8 @@ module _ (set : Settings) (n : ℕ) (before : Objects) (txns : List (List Op)) (
   whole_line = subst (λ (l : List Op). PastOps set before l 0 t) all_ops
       (subst (λ (k : ℕ). PastOps set before (ops_to (replay_of n before txns) (n + length txns)) k t) from_first is.past)
 
-laws : (set : Settings) → ImageLaws (Image set)
-laws set = record {
+plain_laws : (set : Settings) → ImageLaws (Image set)
+plain_laws set = record {
   more = λ h n lo hi t room is. record { base = is.base; number = is.number; own = is.own; fit = is.fit; past = wider set h (count_to h lo) hi (hi + 1) t (omega arith) is.past };
   rebase = λ h n lo hi end t base within order to known is. record { base = omega arith; number = is.number; own = is.own; fit = can_part h n end (at h n) is.fit; past = rebased set h n lo hi end t base within order to is.past };
   once = λ n before before2 txns t one two.
@@ -60,13 +61,25 @@ laws set = record {
   one_number = λ h g n m lo lo2 hi hi2 t one two. one_number n m t one.number two.number;
 }
 
+-- which store it is stands beside
+laws : (id : Identity) → ImageLaws (StoreImage id)
+laws id = record {
+  more = λ h n lo hi t room is. record { store = is.store; image = (plain_laws id.settings).more h n lo hi t room is.image };
+  rebase = λ h n lo hi end t base within order to known is. record { store = is.store; image = (plain_laws id.settings).rebase h n lo hi end t base within order to known is.image };
+  once = λ n before before2 txns t one two. (plain_laws id.settings).once n before before2 txns t one.image two.image;
+  one_number = λ h g n m lo lo2 hi hi2 t one two. one_number n m t one.image.number two.image.number;
+}
+
 pub theory_law : TheoryLaw
-theory_law set = record {
-  laws = laws set;
-  whole = λ h n lo m t le is past. record { base = omega (arith, is.base, le); number = is.number; own = is.own; fit = is.fit; past = past };
-  begins = λ n before txns t is. is.past;
+theory_law id = record {
+  laws = laws id;
+  whole = λ h n lo m t le is past. record {
+    store = is.store;
+    image = record { base = omega (arith, is.image.base, le); number = is.image.number; own = is.image.own; fit = is.image.fit; past = past };
+  };
+  begins = λ n before txns t is. is.image.past;
   ends = λ h t past. past;
-  number_is = λ h n lo hi t is. is.number;
+  number_is = λ h n lo hi t is. is.image.number;
   one_number = one_number;
-  laid_is = λ h n lo hi t is. record { own = is.own; whole = is.past.past.whole };
+  laid_is = λ h n lo hi t is. record { own = is.image.own; whole = is.image.past.past.whole };
 }

@@ -38,7 +38,7 @@ use Rattle.tree_places.proofs.Histories.{count_grows, wider}
 use Rattle.tree_places.proofs.Operations.{history_law, edit_law, coll_law}
 use Rattle.tree_places.proofs.Own.{own_law, own_dirs}
 
-both_keep : (P Q R : Tree → Type 0) (old new : Disk) → Keeps P old new → Keeps Q old new → ((t : Tree) → P t → Q t → R t) → Keeps R old new
+pub both_keep : (P Q R : Tree → Type 0) (old new : Disk) → Keeps P old new → Keeps Q old new → ((t : Tree) → P t → Q t → R t) → Keeps R old new
 both_keep P Q R old new one two f = record {
   later = one.later;
   each = λ c left. f c (one.each c left) (two.each c left);

@@ -10,6 +10,8 @@ use Rattle.lfn_index.specs.Changes.{aside}
 use Rattle.lfn_index.specs.Directory.{entry}
 use Rattle.tree_stands.specs.Trees.{AllWhole}
 use Rattle.commit_point.specs.Number.{number_path, HasNumber}
+use Rattle.store_files.specs.declared.reading.Identity.{Identity}
+use Rattle.store_files.specs.Stores.{IsStore}
 use Rattle.store_history.specs.History.{History, end_of}
 use Rattle.store_turns.specs.declared.numbers.How.TheVariants.{Live, Replay}
 use Rattle.store_turns.specs.Theory.{Reads}
@@ -40,6 +42,11 @@ pub record Image (set : Settings) (h : History) (n lo hi : ℕ) (t : Tree) : Typ
   pub own : IsOwn t
   pub fit : AllCan h
   pub past : Past set h lo hi t
+
+-- Which store it is stands there too, as a mount reads it first.
+pub record StoreImage (id : Identity) (h : History) (n lo hi : ℕ) (t : Tree) : Type 0 where
+  pub store : IsStore t id.fsid id.settings
+  pub image : Image id.settings h n lo hi t
 
 -- What reads live is past no transaction to come. On replay it may be: that is what a crash left.
 abbrev pub reads : Settings → Reads

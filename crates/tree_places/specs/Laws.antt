@@ -18,6 +18,8 @@ use Rattle.tree_stands.specs.Names.{Name}
 use Rattle.tree_stands.specs.Shown.{Paired}
 use Rattle.tree_stands.specs.Trees.{Maps, AreMaps, dir_guard, ForObject}
 use Rattle.commit_point.specs.Number.{HasNumber}
+use Rattle.store_files.specs.declared.reading.Identity.{Identity}
+use Rattle.store_files.specs.Stores.{IsStore}
 use Rattle.store_history.specs.History.{History, end_of, at, IsTxn, replay_of}
 use Rattle.store_turns.specs.Theory.{Theory}
 use Rattle.op_effects.specs.Ready.{HasColls}
@@ -27,11 +29,11 @@ use Rattle.op_places.specs.Places.{is_there}
 use Rattle.op_places.specs.Laws.{EditsOne}
 use Rattle.tree_places.specs.Line.{ops_of, ops_to, count_to, At, with_txn}
 use Rattle.tree_places.specs.Example.{made_tree}
-use Rattle.tree_places.specs.Images.{IsOwn, IsLaid, Image, reads}
+use Rattle.tree_places.specs.Images.{IsOwn, IsLaid, Image, StoreImage, reads}
 
 -- what a store's turns ask of its tree
 abbrev pub TheoryLaw : Type 0
-TheoryLaw = (set : Settings) → Theory (Image set) (reads set) HasNumber (IsLaid set)
+TheoryLaw = (id : Identity) → Theory (StoreImage id) (reads id.settings) HasNumber (IsLaid id.settings)
 
 pub record HistoryLaw : Type 0 where
   -- a transaction's operations have their places in the line
@@ -45,11 +47,11 @@ pub record HistoryLaw : Type 0 where
   pub wider : (set : Settings) (h : History) (k hi hi2 : ℕ) (t : Tree) → hi ≤ hi2 → At set h k hi t → At set h k hi2 t
   pub back : (set : Settings) (h : History) (k l hi : ℕ) (t : Tree) → l ≤ k → At set h k hi t → At set h l hi t
   -- a history may get one more
-  pub longer : (set : Settings) (h : History) (ops : List Op) (n lo hi : ℕ) (t : Tree) → AreAllowed (at h (end_of h)) ops → CanDo ops
-      → lo ≤ hi → hi ≤ end_of h → Image set h n lo hi t → Image set (with_txn h ops) n lo hi t
+  pub longer : (id : Identity) (h : History) (ops : List Op) (n lo hi : ℕ) (t : Tree) → AreAllowed (at h (end_of h)) ops → CanDo ops
+      → lo ≤ hi → hi ≤ end_of h → StoreImage id h n lo hi t → StoreImage id (with_txn h ops) n lo hi t
   -- a tree without collections has done none of a store's first transactions
-  pub begins : (set : Settings) (n : ℕ) (t : Tree) → HasNumber t n → IsOwn t → ((c : Coll) → CollFits c → IsGone set c t)
-      → Image set (replay_of n fin.empty []) n n n t
+  pub begins : (id : Identity) (n : ℕ) (t : Tree) → IsStore t id.fsid id.settings → HasNumber t n → IsOwn t → ((c : Coll) → CollFits c → IsGone id.settings c t)
+      → StoreImage id (replay_of n fin.empty []) n n n t
 
 -- a store that was just made has done none of its first transactions
 abbrev pub ExampleLaw : Type 0

@@ -1,4 +1,4 @@
-use Rattle.tree_places.specs.Images.{Image}
+use Rattle.tree_places.specs.Images.{StoreImage}
 use Rattle.history_tails.proofs.Tails.{tail_self, tail_begun, tail_more, at_tail, stands_tail}
 use Rattle.history_tails.proofs.tail_law.Goals as goal
 
@@ -15,4 +15,4 @@ pub returns-clause-objects : goal.returns-clause-objects
 returns-clause-objects c = at_tail
 
 pub returns-clause-stands : goal.returns-clause-stands
-returns-clause-stands c = λ set. stands_tail (Image set)
+returns-clause-stands c = λ id. stands_tail (StoreImage id)
