@@ -1,5 +1,8 @@
 mod Answering
+mod Clearing
+mod Closed
 mod Draining
 mod Queueing
 pub mod Shown
 pub mod Stilled
+mod Swept
