@@ -1,10 +1,13 @@
 -- Why a mount is refused, from what is found below.
-use Rattle.std.proofs.Common.{◌≡◌, ℕ, List}
+use Rattle.std.proofs.Common.{◌≡◌, ℕ, List, codes, sym, subst}
+use Rattle.fs_names.specs.declared.settings.Settings.{Settings}
 use Rattle.store_files.specs.declared.reading.Identity.{Identity}
-use Rattle.tree_api.specs.Tree.{Tree}
+use Rattle.tree_api.specs.Tree.{Tree, IsDir, current}
+use Rattle.tree_api.specs.Disk.{Disk, Sound}
 use Rattle.built_ops.specs.Built.{CanDo}
 use Rattle.commit_point.specs.Number.{HasNumber}
 use Rattle.tree_places.specs.Images.{IsLaid}
+use Rattle.apply_ops.specs.Next.{IsReady}
 use Rattle.store_mount.specs.Causes.{Explains, IsFoundFirst as IsFoundBelow, IsOutside as IsOutsideBelow}
 use Rattle.store_mount.specs.declared.fault.MountFault.{MountFault as Below}
 use Rattle.store_mount.specs.declared.fault.MountFault.TheVariants as below
@@ -78,3 +81,18 @@ outside_explains id t bytes (BadEntry seq) is = absurd is
 outside_explains id t bytes OfTree is = tt
 outside_explains id t bytes Device is = tt
 outside_explains id t bytes Memory is = tt
+
+-- a store's tree has the directory of its collections
+pub current_there : (set : Settings) (d : Disk) → Sound d → IsReady set d → IsDir d.tree current
+current_there set d sound ready = sound.parents d.tree current (codes "aside") ready.own.building.0 sound.now ready.own.building.1
+
+-- ---- what was found below, as it is handed on
+
+pub explains_from : (id : Identity) (t : Tree) (bytes : List ℕ) (f : MountFault) (b : Below) → f ≡ of_mount b → Explains CanDo HasNumber (IsLaid id.settings) id.fsid t bytes b → ExplainsOf id t bytes f
+explains_from id t bytes f b same is = subst (λ (x : MountFault). ExplainsOf id t bytes x) (sym same) (explains_of id t bytes b is)
+
+pub first_from : (f : MountFault) (b : Below) → f ≡ of_mount b → IsFoundFirst f → IsFoundBelow b
+first_from f b same is = found_below b (subst IsFoundFirst same is)
+
+pub outside_from : (f : MountFault) (b : Below) → f ≡ of_mount b → IsOutsideBelow b → IsOutside f
+outside_from f b same is = subst IsOutside (sym same) (outside_of b is)
