@@ -4,7 +4,7 @@ use Rattle.std.proofs.lemmas.List.{take_more}
 use Rattle.std.specs.FinMap as map
 use Rattle.std.specs.FinSet as set
 use Rattle.fs_names.specs.declared.coll.Coll.{Coll}
-use Rattle.fs_names.specs.Order.{coll_cmp, coll_cmp_total, coll_cmp-IsAntisymmetric}
+use Rattle.fs_names.specs.Order.{coll_cmp_total, coll_cmp-IsAntisymmetric}
 use Rattle.fs_model.specs.declared.op.Op.{Op}
 use Rattle.fs_model.specs.declared.op.Op.TheVariants.{MkColl}
 use Rattle.fs_model.specs.Objects.{Objects}

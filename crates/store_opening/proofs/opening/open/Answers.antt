@@ -1,13 +1,12 @@
-use Rattle.std.proofs.Common.{◌≡◌, ℕ, List, sym, ◌∙◌, ap, subst, rules}
-use Rattle.fs_model.specs.Objects.{Objects}
+use Rattle.std.proofs.Common.{sym, subst, rules}
 use Rattle.tree_places.specs.Images.{StoreImage}
 use Rattle.apply_ops.specs.Next.{IsReady}
 use Rattle.file_store.specs.Store.{Store}
 use Rattle.file_store.proofs.Stilled.{is_ready_stays}
-use Rattle.store_opening.specs.Mounts.{ExplainsOf, IsFoundFirst, IsOutside, MountsAs}
+use Rattle.store_opening.specs.Mounts.{MountsAs}
 
 use Rattle.store_opening.proofs.Opened.{shows_mounted, mounts_as, carry_then, trees_then}
-use Rattle.store_opening.proofs.Found.{outside_from}
+use Rattle.store_opening.proofs.Found.{outside_from, usable_below}
 use Rattle.store_opening.proofs.opening.open.Goals as goal
 
 pub returns-in-Err-read_colls-clause-exit : goal.returns-in-Err-read_colls-clause-exit
@@ -65,3 +64,6 @@ returns-clause-tree g c = λ tells works.
     let ready : IsReady set new =
     is_ready_stays (g.T.FileTree.disk c.mount.new.tree) new (c.read_colls.ensures.still (search rules)).stays set (c.in-Ok.ensures.ready (search rules)) in
     subst (λ (x : Store). IsReady x.identity.settings new) (sym c.new.ensures) ready
+
+pub returns-in-Err-clause-usable : goal.returns-in-Err-clause-usable
+returns-in-Err-clause-usable g c = usable_below c.from.result c.in-Err.fault c.from.ensures
