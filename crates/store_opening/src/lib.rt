@@ -9,3 +9,6 @@ mod opening;
 
 pub use fault::MountFault;
 pub use mounting::mount;
+
+#[cfg(test)]
+mod tests;

@@ -65,7 +65,11 @@ fn coll_list(alloc: Global, names: &[Coll]) -> Result<CollList, AllocError>
 }
 
 // The collections of a tree that shows objects.
-fn read_colls<T: FileTree>(alloc: Global, tree: &mut T, set: &Settings) -> Result<CollList, MountFault>
+fn read_colls<T: FileTree>(
+    alloc: Global,
+    tree: &mut T,
+    set: &Settings,
+) -> Result<CollList, MountFault>
     requires ready { T.tells tree.old → IsReady set.now (T.disk tree.old) }
     ensures told { T.tells tree.new → T.tells tree.old }
     ensures still { T.tells tree.new → Still (T.disk tree.old) (T.disk tree.new) }

@@ -4,7 +4,6 @@ use Rattle.apply_ops.specs.Next.{IsReady}
 use Rattle.file_store.specs.Store.{Store}
 use Rattle.file_store.proofs.Stilled.{is_ready_stays}
 use Rattle.store_opening.specs.Mounts.{MountsAs}
-
 use Rattle.store_opening.proofs.Opened.{shows_mounted, mounts_as, carry_then, trees_then}
 use Rattle.store_opening.proofs.Found.{outside_from, usable_below}
 use Rattle.store_opening.proofs.opening.open.Goals as goal
