@@ -4,6 +4,7 @@ use Rattle.std.proofs.lemmas.Grind.{flat_map-append}
 use Rattle.std.specs.Prelude.{Option, None, Some, Contains, nat_le, nat_lt, ◌||◌, ◌^◌}
 use Rattle.std.specs.List.{flat_map}
 use Rattle.ring_frame.specs.Frame.{need}
+use Rattle.built_ops.specs.Built.{unbuilt_in}
 use Rattle.fs_model.specs.declared.op.Op.{Op}
 use Rattle.fs_model.specs.declared.op.Txn.{Txn}
 use Rattle.fs_model.specs.declared.op.Why.{Why}
@@ -15,10 +16,10 @@ use Rattle.fs_script.specs.declared.statement.Statement.{Statement}
 use Rattle.fs_script.specs.declared.statement.Statement.TheVariants.{Do, Begin, End, Drain, Read, Stat, Attrs, Omap, List as ListIn, Colls, Acked}
 use Rattle.fs_script.specs.declared.statement.Line.{Line}
 use Rattle.fs_script.specs.declared.answer.Answer.{Answer}
-use Rattle.fs_script.specs.declared.answer.Answer.TheVariants.{Queued, TooLarge, RingFull, QueueFull, NumbersSpent, Drained}
+use Rattle.fs_script.specs.declared.answer.Answer.TheVariants.{Queued, NotBuilt, TooLarge, QueueFull, NumbersSpent, Drained}
 use Rattle.fs_script.specs.Printed.{answer_text}
 use Rattle.fs_session.specs.Room.{queue_limit, last_number, payload_len, room_for}
-use Rattle.fs_session.specs.Answers.{Session, IsCounted, Step, silent, answering, colls_queued, free_bytes, room_answer, refused_or, queue_answer, queued_if, queue_step, txn_of, op_step, end_step, bytes_answer, size_answer, attrs_answer, omap_answer, page_answer, cursor_oid, step, followed_by, run_lines, session_after, queued_by, answers, answers_text}
+use Rattle.fs_session.specs.Answers.{Session, IsCounted, Step, silent, answering, colls_queued, refused_or, built_or, queue_answer, queued_if, queue_step, txn_of, op_step, end_step, bytes_answer, size_answer, attrs_answer, omap_answer, page_answer, cursor_oid, step, followed_by, run_lines, session_after, queued_by, answers, answers_text}
 
 -- lines behind others
 
@@ -46,18 +47,20 @@ OfQueue n (Queued seq) = seq ≡ n
 OfQueue n (Drained acked seq) = ⊥
 OfQueue n _ = Unit {0}
 
-room-of_queue : (n : ℕ) (large full many spent : Bool) (need size free : ℕ)
-    → OfQueue n (cond large (TooLarge need size) (cond full (RingFull need free) (cond many QueueFull (cond spent NumbersSpent (Queued n)))))
-room-of_queue n true full many spent need size free = tt
-room-of_queue n false true many spent need size free = tt
-room-of_queue n false false true spent need size free = tt
-room-of_queue n false false false true need size free = tt
-room-of_queue n false false false false need size free = refl
+room-of_queue : (n : ℕ) (large many spent : Bool) (need size : ℕ)
+    → OfQueue n (cond large (TooLarge need size) (cond many QueueFull (cond spent NumbersSpent (Queued n))))
+room-of_queue n true many spent need size = tt
+room-of_queue n false true spent need size = tt
+room-of_queue n false false true need size = tt
+room-of_queue n false false false need size = refl
 
-room_for-of_queue : (size free waiting last len : ℕ) → OfQueue (last + 1) (room_for size free waiting last len)
-room_for-of_queue size free waiting last len =
-    room-of_queue (last + 1) (nat_lt size (need len) || nat_le (2 ^ 32) len) (nat_lt free (need len)) (nat_le queue_limit waiting) (nat_le last_number last)
-    (need len) size free
+room_for-of_queue : (size waiting last len : ℕ) → OfQueue (last + 1) (room_for size waiting last len)
+room_for-of_queue size waiting last len =
+    room-of_queue (last + 1) (nat_lt size (need len) || nat_le (2 ^ 32) len) (nat_le queue_limit waiting) (nat_le last_number last) (need len) size
+
+built-of_queue : (n : ℕ) (r : Option ℕ) (a : Answer) → OfQueue n a → OfQueue n (built_or r a)
+built-of_queue n None a h = h
+built-of_queue n (Some op) a h = tt
 
 refused-of_queue : (n : ℕ) (r : Option (ℕ × Why)) (a : Answer) → OfQueue n a → OfQueue n (refused_or r a)
 refused-of_queue n None a h = h
@@ -65,8 +68,9 @@ refused-of_queue n (Some (op, why)) a h = tt
 
 queue-of_queue : (s : Session) (txn : Txn) → OfQueue (s.last + 1) (queue_answer s txn)
 queue-of_queue s txn =
-    refused-of_queue (s.last + 1) (txn_refusal (colls_queued s) txn.ops) (room_answer s txn)
-    (room_for-of_queue s.size (free_bytes s) (length s.waiting) s.last (payload_len txn))
+    let room = room_for s.size (length s.waiting) s.last (payload_len txn) in
+    refused-of_queue (s.last + 1) (txn_refusal (colls_queued s) txn.ops) (built_or (unbuilt_in txn.ops) room)
+    (built-of_queue (s.last + 1) (unbuilt_in txn.ops) room (room_for-of_queue s.size (length s.waiting) s.last (payload_len txn)))
 
 -- what is answered acknowledges nothing
 abbrev IsQuiet : Answer → Type 0

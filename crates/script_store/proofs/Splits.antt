@@ -12,8 +12,7 @@ use Rattle.fs_script.specs.declared.statement.Statement.{Statement}
 use Rattle.fs_script.specs.declared.statement.Statement.TheVariants.{Do, End, Drain}
 use Rattle.fs_session.specs.Answers.{Session, Step, step, run_lines, session_after, queued_by, queue_answer, queued_if, op_step, end_step, txn_of}
 use Rattle.fs_session.proofs.Sessions.{run_lines-append}
-use Rattle.journal_store.specs.Kept.{ops_of}
-use Rattle.script_store.specs.Script.{OpLists, drained_in}
+use Rattle.script_store.specs.Script.{OpLists, ops_of, drained_in}
 
 -- one line more
 
