@@ -1,6 +1,10 @@
 //! A store as a script works on it: what each statement does to it, and what it answers.
 #![tactic(auto)]
 
+mod fault;
+mod queueing;
+mod readings;
 mod store;
 
+pub use fault::StepFault;
 pub use store::{ScriptStore, Stepped, step};
