@@ -2,3 +2,4 @@ mod Off
 mod Made
 mod Orders
 mod Telling
+mod Unmade

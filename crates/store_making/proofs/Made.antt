@@ -21,7 +21,7 @@ use Rattle.op_effects.specs.Collections.{IsGone}
 use Rattle.op_effects.specs.Ready.{trash}
 use Rattle.store_history.specs.History.{replay_of}
 use Rattle.store_history.specs.Pair.{Closed}
-use Rattle.tree_places.specs.Images.{IsOwn, Image}
+use Rattle.tree_places.specs.Images.{IsOwn, StoreImage}
 use Rattle.tree_places.proofs.Operations.{history_law}
 use Rattle.store_files.specs.Stores.{IsStore}
 use Rattle.store_files.specs.Steps.{Among, IsBare, Off, store_paths}
@@ -135,14 +135,14 @@ module _ (set : Settings) (fsid : List ℕ) (before t : Tree) (bare : IsBare bef
       no_file m is o fit None at = at
       no_file m is o fit (Some n) at = let found = is.there o n fit at in absurd (within c fits found.0 n found.1.here)
 
-  image : Image set (replay_of 0 fin.empty []) 0 0 0 t
-  image = history_law.begins set 0 t number own gone
+  image : StoreImage (record { fsid = fsid; settings = set }) (replay_of 0 fin.empty []) 0 0 0 t
+  image = history_law.begins (record { fsid = fsid; settings = set }) 0 t store number own gone
 
   none_left : (es rest : List Entry) → [] ≡ es ++ rest → es ≡ []
   none_left [] rest e = refl
   none_left (x ∷ es) rest e = absurd (cc)
 
-  pub closed : (size : ℕ) (c : List ℕ) → Left (first_head fsid size) [] [] c → Closed (Image set) fsid t c fin.empty
+  pub closed : (size : ℕ) (c : List ℕ) → Left (first_head fsid size) [] [] c → Closed (StoreImage (record { fsid = fsid; settings = set })) fsid t c fin.empty
   closed size c left = record {
     n = 0;
     head = first_head fsid size;

@@ -13,7 +13,7 @@ use Rattle.commit_point.specs.Number.{HasNumber}
 use Rattle.store_making.specs.Making.{IsMade, VersionLast}
 use Rattle.store_making.proofs.Off.{not_root}
 
-no_version : (t : Tree) → IsBare t → t.at version_path ≡ None
+pub no_version : (t : Tree) → IsBare t → t.at version_path ≡ None
 no_version t bare = bare.1 version_path (not_root (codes "store_version") [])
 
 module _ (P : Tree → Type 0) (early : (t : Tree) → t.at version_path ≡ None → P t) (old : Disk) (sound : Sound old) (bare : Everywhere old IsBare) where

@@ -1,18 +1,21 @@
 -- What making a store answers, and what it leaves.
 use Rattle.std.specs.Prelude.{◌≡◌, ◌⊎◌, ℕ, List, [], None, Result, Ok, Err}
+use Rattle.std.specs.FinMap as fin
 use Rattle.fs_names.specs.declared.settings.Settings.{Settings}
 use Rattle.tree_api.specs.Tree.{Tree}
 use Rattle.dev_api.specs.Disk.{Disk}
 use Rattle.ring_images.specs.Headers.{IsSize}
-use Rattle.ring_images.specs.Held.{Leaves}
+use Rattle.ring_images.specs.Held.{EachSound, Leaves}
 use Rattle.ring_journal.specs.declared.fault.RingFault.{RingFault}
 use Rattle.ring_journal.specs.declared.fault.RingFault.TheVariants as ring
 use Rattle.ring_journal.specs.State.{first_head}
 use Rattle.store_files.specs.News.{IsNew}
-use Rattle.store_files.specs.Stores.{version_path}
+use Rattle.store_files.specs.Stores.{HasVersion, version_path}
 use Rattle.store_files.specs.Steps.{AllIn, rest_items}
 use Rattle.store_files.specs.declared.fault.MakeFault.{MakeFault as FilesFault}
 use Rattle.store_files.specs.declared.fault.MakeFault.TheVariants as files
+use Rattle.store_history.specs.Pair.{Closed}
+use Rattle.tree_places.specs.Images.{StoreImage}
 use Rattle.store_making.specs.declared.fault.MakeFault.{MakeFault}
 use Rattle.store_making.specs.declared.fault.MakeFault.TheVariants.{NotEmpty, DeviceSize, Tree as TreeFailed, Device, Memory}
 
@@ -59,3 +62,11 @@ IsMade fsid size d = Leaves (first_head fsid size) [] [] d
 -- no version stands, or all is there, the ring too
 abbrev pub VersionLast : List ℕ → Settings → ℕ → Disk → Tree → Type 0
 VersionLast fsid set size d t = (t.at version_path ≡ None) ⊎ (AllIn (rest_items fsid set) t × IsMade fsid size d)
+
+-- with each sound image of the device the tree makes a closed store without objects
+abbrev pub MakesEmpty : List ℕ → Settings → Tree → Disk → Type 0
+MakesEmpty fsid set t d = EachSound (λ c. Closed (StoreImage (record { fsid = fsid; settings = set })) fsid t c fin.empty) d
+
+-- it is no store of this version yet, or all is there
+abbrev pub Unmade : List ℕ → Settings → ℕ → Tree → Disk → Type 0
+Unmade fsid set size t d = HasVersion t 1 → MakesEmpty fsid set t d × IsMade fsid size d

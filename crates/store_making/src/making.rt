@@ -1,17 +1,14 @@
 // A store made on a new tree and a device.
 ghost use Rattle.std.specs.Prelude.{◌≡◌, ◌≤◌, ◌<◌, ℕ, All, Err, OnOk, OnErr, IfErr, IfOk, IsErrOf};
-ghost use Rattle.std.specs.FinMap as fin;
 ghost use Rattle.fault_count.specs.Counted.{Counted};
 ghost use Rattle.tree_api.specs.Disk.{Everywhere, Keeps, Leaves, Stays, Still};
 ghost use Rattle.ring_images.specs.Headers.{IsSize};
-ghost use Rattle.ring_images.specs.Held.{EachSound};
-ghost use Rattle.store_history.specs.Pair.{Closed};
-ghost use Rattle.tree_places.specs.Images.{StoreImage};
+ghost use Rattle.ring_journal.specs.State.{IsSettled};
 ghost use Rattle.store_files.specs.News.{IsNew};
 ghost use Rattle.store_files.specs.Stores.{IsStore, IsUsable};
 ghost use Rattle.store_files.specs.Steps.{AllIn, Among, IsBare, Unfinished, store_items, store_paths};
 ghost use Rattle.store_files.specs.Texts.{IsFsid};
-ghost use Rattle.store_making.specs.Making.{IsMade, IsRefusal, TellsNew, TellsSize, VersionLast};
+ghost use Rattle.store_making.specs.Making.{IsMade, IsRefusal, MakesEmpty, TellsNew, TellsSize, Unmade, VersionLast};
 
 use crate::fault::MakeFault;
 use dev_api::Device;
@@ -57,6 +54,7 @@ fn settle<T: FileTree>(tree: &mut T) -> Result<(), MakeFault>
 fn make_ring<D: Device>(dev: &mut D, fsid: &[u8; 16]) -> Result<(), MakeFault>
     requires size { IsSize (D.state dev.old).size }
     ensures made { D.tells dev.new → OnOk result (IsMade fsid.now (D.state dev.old).size (D.state dev.new).disk) }
+    ensures settled { D.tells dev.new → OnOk result (IsSettled (D.state dev.new).disk) }
     ensures refusal { IfErr result (λ fault. IsRefusal fault → ⊥) }
     ensures tree { result ≡ Err MakeFault.Tree → ⊥ }
     ensures honest { D.tells dev.new → D.tells dev.old }
@@ -120,7 +118,11 @@ pub fn make_store<T: FileTree, D: Device>(
         → Keeps (VersionLast fsid.now set.now (D.state dev.old).size (D.state dev.new).disk) (T.disk tree.old) (T.disk tree.new) }
     ensures stores { T.tells tree.new → IsUsable set.now → OnOk result (Everywhere (T.disk tree.new) (λ t. IsStore t fsid.now set.now)) }
     ensures closed { T.tells tree.new → D.tells dev.new → IsUsable set.now → OnOk result
-        (Everywhere (T.disk tree.new) (λ t. EachSound (λ c. Closed (StoreImage (record { fsid = fsid.now; settings = set.now })) fsid.now t c fin.empty) (D.state dev.new).disk)) }
+        (Everywhere (T.disk tree.new) (λ t. MakesEmpty fsid.now set.now t (D.state dev.new).disk)) }
+    ensures ring { D.tells dev.new → OnOk result (IsMade fsid.now (D.state dev.old).size (D.state dev.new).disk) }
+    ensures settled { D.tells dev.new → OnOk result (IsSettled (D.state dev.new).disk) }
+    ensures each_pair { T.tells tree.new → D.tells dev.new → Everywhere (T.disk tree.old) IsBare → IsUsable set.now
+        → Everywhere (T.disk tree.new) (λ t. Unmade fsid.now set.now (D.state dev.old).size t (D.state dev.new).disk) }
     ensures told { T.tells tree.new → T.tells tree.old }
     ensures honest { D.tells dev.new → D.tells dev.old }
     ensures extent { (D.state dev.new).size ≡ (D.state dev.old).size }
