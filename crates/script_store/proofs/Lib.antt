@@ -3,3 +3,4 @@ pub mod Holding
 pub mod Queued
 pub mod Faults
 pub mod Splits
+pub mod Stepping

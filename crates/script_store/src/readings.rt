@@ -93,7 +93,11 @@ fn first_of(cursor: &Cursor) -> Option<&Oid>
 
 /// What a statement that reads the tree answers.
 #[tactic(auto, unfolding(fs_session::specs::Answers::step))]
-pub fn ask<T: FileTree>(store: &ScriptStore, statement: Statement, tree: &mut T) -> Result<Answer, ReadFault>
+pub fn ask<T: FileTree>(
+    store: &ScriptStore,
+    statement: Statement,
+    tree: &mut T,
+) -> Result<Answer, ReadFault>
     requires reading { is_reading statement ≡ true }
     requires tree { IsItsTree store.now.store (T.tells tree.old) (T.disk tree.old) }
     ensures answer { T.tells tree.new → (h : History) → Reads h store.now.store (T.disk tree.old)
@@ -107,11 +111,15 @@ pub fn ask<T: FileTree>(store: &ScriptStore, statement: Statement, tree: &mut T)
     ensures faults { (T.disk tree.old).faults ≤ (T.disk tree.new).faults }
 {
     match statement {
-        Statement::Read { c, o, at, len } => Ok(bytes_answer(store.store.read(tree, &c, &o, at, len)?)),
+        Statement::Read { c, o, at, len } => Ok(bytes_answer(
+            store.store.read(tree, &c, &o, at, len)?,
+        )),
         Statement::Stat { c, o } => Ok(size_answer(store.store.stat(tree, &c, &o)?)),
         Statement::Attrs { c, o } => Ok(attrs_answer(store.store.attrs(tree, &c, &o)?)),
         Statement::Omap { c, o } => Ok(omap_answer(store.store.omap(tree, &c, &o)?)),
-        Statement::List { c, cursor, max } => Ok(listed_answer(store.store.list(tree, &c, first_of(&cursor), max)?)),
+        Statement::List { c, cursor, max } => Ok(listed_answer(
+            store.store.list(tree, &c, first_of(&cursor), max)?,
+        )),
         Statement::Colls => Ok(Answer::Colls(store.store.colls(tree)?)),
         _ => unreachable!(),
     }

@@ -38,7 +38,11 @@ pub struct Stepped {
 }
 
 // Answers a statement that reads the tree.
-fn read<T: FileTree>(store: ScriptStore, statement: Statement, tree: &mut T) -> Result<Stepped, StepFault>
+fn read<T: FileTree>(
+    store: ScriptStore,
+    statement: Statement,
+    tree: &mut T,
+) -> Result<Stepped, StepFault>
     requires works { Works store.store }
     requires reading { is_reading statement ≡ true }
     requires tree { IsItsTree store.store (T.tells tree.old) (T.disk tree.old) }
@@ -64,7 +68,11 @@ fn read<T: FileTree>(store: ScriptStore, statement: Statement, tree: &mut T) -> 
 }
 
 // Drains the store.
-fn drain<T: FileTree, D: Device>(store: ScriptStore, tree: &mut T, dev: &mut D) -> Result<Stepped, StepFault>
+fn drain<T: FileTree, D: Device>(
+    store: ScriptStore,
+    tree: &mut T,
+    dev: &mut D,
+) -> Result<Stepped, StepFault>
     requires works { Works store.store }
     requires tree { IsItsTree store.store (T.tells tree.old) (T.disk tree.old) }
     requires device { IsItsDevice store.store (D.tells dev.old) (D.state dev.old) }
