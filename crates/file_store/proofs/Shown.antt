@@ -21,10 +21,10 @@ shown_at set h m t past =
     subst (λ (O : Objects). Shows set O t) (fold_flat h.origin (take (m - h.base) h.txns))
     (done set h.origin (ops_to h m) t (plain_to h m past.plain) past.past)
 
-pub shown : (h : History) (s : Store) (t : Files) → Reads h s t → Shows s.set (at h (end_of h)) t.tree
+pub shown : (h : History) (s : Store) (t : Files) → Reads h s t → Shows s.identity.settings (at h (end_of h)) t.tree
 shown h s t r =
     let same : at r.long s.numbers.journalled ≡ at h (end_of h) = ap (at r.long) (sym r.end) ∙ at_tail h r.long (end_of h) r.tail (omega arith) in
-    subst (λ (O : Objects). Shows s.set O t.tree) same (shown_at s.set r.long s.numbers.journalled t.tree r.shown)
+    subst (λ (O : Objects). Shows s.identity.settings O t.tree) same (shown_at s.identity.settings r.long s.numbers.journalled t.tree r.shown)
 
 -- what both sides hold the tree shows
 pub reads_held : (h : History) (s : Store) (t : Files) (d : Disk) → Holds h s t d → Reads h s t

@@ -17,11 +17,11 @@ returns-clause-reads g c = λ tells h r.
 
 pub returns-clause-tree : goal.returns-clause-tree
 returns-clause-tree g c = λ tells works.
-    is_ready_stays (g.T.FileTree.disk c.args.tree.now) (g.T.FileTree.disk c.colls.new.tree) (c.colls.ensures.still (search rules)).stays c.args.self.now.set (c.requires.tree (search rules) works)
+    is_ready_stays (g.T.FileTree.disk c.args.tree.now) (g.T.FileTree.disk c.colls.new.tree) (c.colls.ensures.still (search rules)).stays c.args.self.now.identity.settings (c.requires.tree (search rules) works)
 
 pub returns-in-Err-clause-tree : goal.returns-in-Err-clause-tree
 returns-in-Err-clause-tree g c = λ tells works.
-    is_ready_stays (g.T.FileTree.disk c.args.tree.now) (g.T.FileTree.disk c.colls.new.tree) (c.colls.ensures.still (search rules)).stays c.args.self.now.set (c.requires.tree (search rules) works)
+    is_ready_stays (g.T.FileTree.disk c.args.tree.now) (g.T.FileTree.disk c.colls.new.tree) (c.colls.ensures.still (search rules)).stays c.args.self.now.identity.settings (c.requires.tree (search rules) works)
 
 pub returns-in-Err-clause-undamaged : goal.returns-in-Err-clause-undamaged
 returns-in-Err-clause-undamaged g c = λ tells works p is.
@@ -32,5 +32,5 @@ returns-in-Err-clause-undamaged g c = λ tells works p is.
 pub colls-requires : goal.colls-requires
 colls-requires g c = record {
   current = λ told.
-      current_there c.args.self.now.set (g.T.FileTree.disk c.args.tree.now) (g.met.T.FileTree.sound c.args.tree.now told) (c.requires.tree told (search rules));
+      current_there c.args.self.now.identity.settings (g.T.FileTree.disk c.args.tree.now) (g.met.T.FileTree.sound c.args.tree.now told) (c.requires.tree told (search rules));
 }
