@@ -1,5 +1,5 @@
 -- A store whose images are past all that is journalled, and whose journal holds no entry, is closed.
-use Rattle.std.proofs.Common.{◌≡◌, ℕ, ◌+◌, ◌-◌, ◌<◌, ◌≤◌, ◌^◌, List, [], ◌∷◌, length, refl, sym, ◌∙◌, ap, subst, arith}
+use Rattle.std.proofs.Common.{◌≡◌, ℕ, suc, ◌+◌, ◌-◌, ◌<◌, ◌≤◌, ◌^◌, List, [], ◌∷◌, length, refl, sym, ◌∙◌, ap, subst, arith}
 use Rattle.fs_model.specs.declared.op.Op.{Op}
 use Rattle.fs_model.specs.Objects.{Objects}
 use Rattle.tree_api.specs.Tree.{Tree}
@@ -25,7 +25,7 @@ use Rattle.file_store.specs.Holds.{Holds, Leaves, LeavesClosed, with_waiting}
 
 no_entries : (es : List Entry) → length es ≡ 0 → es ≡ []
 no_entries [] none = refl
-no_entries (e ∷ es) none = absurd (omega (arith, none))
+no_entries (e ∷ es) none = absurd (let z : suc (length es) ≡ 0 = none in omega (arith, z))
 
 -- one pair of it
 module _ (id : Identity) (fsid : List ℕ) (h long : History) (tail : IsTailOf h long) (n : ℕ) (end : end_of h ≡ n) (small : end_of long < 2 ^ 63) (t : Tree) (c : List ℕ)
@@ -68,7 +68,7 @@ JournalLaw = (fsid : List ℕ) (h : History) (p synced hi : ℕ) (s : State) (d 
 
 -- the store that was drained, and a tree whose images are still such
 module _ (journal_law : JournalLaw) (h : History) (s done : Store) (t u : Files) (d : Disk) (is : IsDrained s done) (k : Holds h done t d) where
-  n : ℕ
+  abbrev n : ℕ
   n = s.queue.last
 
   end_is : end_of h ≡ n

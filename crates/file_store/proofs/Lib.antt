@@ -1,4 +1,5 @@
 mod Answering
+mod Clearing
 mod Closed
 mod Draining
 mod Queueing

@@ -1,11 +1,11 @@
 -- Images of a store stay images where trees of the trash are swept.
-use Rattle.std.proofs.Common.{◌≡◌, ℕ, ◌+◌, ◌≤◌, List, [], ◌∷◌, ◌++◌, length, refl, sym, ◌∙◌, ap, arith, length-append, append_assoc, Option, Some, None}
+use Rattle.std.proofs.Common.{◌≡◌, ℕ, suc, ◌+◌, ◌≤◌, List, [], ◌∷◌, ◌++◌, length, refl, sym, ◌∙◌, ap, arith, length-append, append_assoc, Option, Some, None}
 use Rattle.std.proofs.lemmas.List.{length_push}
 use Rattle.fs_names.specs.declared.coll.Coll.{Coll}
 use Rattle.fs_names.specs.declared.settings.Settings.{Settings}
 use Rattle.fs_names.specs.Reading.{CollFits}
 use Rattle.tree_api.specs.Tree.{Path, Version, Tree, IsFile, current, held, look}
-use Rattle.tree_api.specs.Disk.{Disk, Sound, Stays, From, Leaves, Everywhere, SyncedAll}
+use Rattle.tree_api.specs.Disk.{Disk, Sound, Stays, From, Leaves, Everywhere}
 use Rattle.tree_api.proofs.Moments.{now_from}
 use Rattle.lfn_index.specs.Changes.{aside}
 use Rattle.lfn_index.specs.Directory.{entry}
@@ -40,7 +40,7 @@ never_deep t q shallow (rest, path, long, dir) = by rest path long
   where
     by : (r : Path) → q ≡ trash ++ r → length r ≡ 10 → ⊥
     by [] same ten = absurd (omega (arith, ten))
-    by (s ∷ r) same ten = shallow s q (r, same ∙ sym (append_assoc trash (s ∷ []) r), omega (arith, ten), dir)
+    by (s ∷ r) same ten = let more : suc (length r) ≡ 10 = ten in shallow s q (r, same ∙ sym (append_assoc trash (s ∷ []) r), omega (arith, more), dir)
 
 same_version : (a b : Version) → Some a ≡ Some b → a ≡ b
 same_version a b e = cc

@@ -1,5 +1,5 @@
 -- What stays where trees of a directory are swept.
-use Rattle.std.proofs.Common.{◌≡◌, inl, ⊎_elim, ℕ, List, [], ◌∷◌, ◌++◌, length, refl, sym, ◌∙◌, ap}
+use Rattle.std.proofs.Common.{◌≡◌, inl, ⊎_elim, ℕ, ◌++◌, length, refl, sym, ◌∙◌, ap}
 use Rattle.tree_api.specs.Tree.{Path, Names, Tree}
 use Rattle.tree_api.specs.Disk.{Disk, Sound, Stays, Leaves}
 use Rattle.tree_api.specs.Renaming.{NoNode}
