@@ -1,6 +1,6 @@
 -- Why a mount is refused, from what is found below.
 use Rattle.std.proofs.Common.{◌≡◌, ℕ, List}
-use Rattle.fs_names.specs.declared.settings.Settings.{Settings}
+use Rattle.store_files.specs.declared.reading.Identity.{Identity}
 use Rattle.tree_api.specs.Tree.{Tree}
 use Rattle.built_ops.specs.Built.{CanDo}
 use Rattle.commit_point.specs.Number.{HasNumber}
@@ -13,17 +13,17 @@ use Rattle.store_opening.specs.declared.fault.MountFault.TheVariants.{NotAStore,
 use Rattle.store_opening.specs.Faults.{of_mount}
 use Rattle.store_opening.specs.Mounts.{ExplainsOf, IsFoundFirst, IsOutside}
 
-pub explains_of : (set : Settings) (fsid : List ℕ) (t : Tree) (bytes : List ℕ) (f : Below) → Explains CanDo HasNumber (IsLaid set) fsid t bytes f → ExplainsOf set fsid t bytes (of_mount f)
-explains_of set fsid t bytes below.NoHeader is = is
-explains_of set fsid t bytes (below.WrongFsid tree ring) is = is
-explains_of set fsid t bytes below.Spent is = is
-explains_of set fsid t bytes below.BadSeq is = is
-explains_of set fsid t bytes (below.JournalGap start committed) is = is
-explains_of set fsid t bytes (below.Damaged path) is = is
-explains_of set fsid t bytes (below.BadEntry seq) is = is
-explains_of set fsid t bytes below.Tree is = tt
-explains_of set fsid t bytes below.Device is = tt
-explains_of set fsid t bytes below.Memory is = tt
+pub explains_of : (id : Identity) (t : Tree) (bytes : List ℕ) (f : Below) → Explains CanDo HasNumber (IsLaid id.settings) id.fsid t bytes f → ExplainsOf id t bytes (of_mount f)
+explains_of id t bytes below.NoHeader is = is
+explains_of id t bytes (below.WrongFsid tree ring) is = is
+explains_of id t bytes below.Spent is = is
+explains_of id t bytes below.BadSeq is = is
+explains_of id t bytes (below.JournalGap start committed) is = is
+explains_of id t bytes (below.Damaged path) is = is
+explains_of id t bytes (below.BadEntry seq) is = is
+explains_of id t bytes below.Tree is = tt
+explains_of id t bytes below.Device is = tt
+explains_of id t bytes below.Memory is = tt
 
 pub found_below : (f : Below) → IsFoundFirst (of_mount f) → IsFoundBelow f
 found_below below.NoHeader is = tt
@@ -64,17 +64,17 @@ outside_late OfTree is first = first
 outside_late Device is first = first
 outside_late Memory is first = first
 
-pub outside_explains : (set : Settings) (fsid : List ℕ) (t : Tree) (bytes : List ℕ) (f : MountFault) → IsOutside f → ExplainsOf set fsid t bytes f
-outside_explains set fsid t bytes NotAStore is = is
-outside_explains set fsid t bytes (WrongVersion found) is = is
-outside_explains set fsid t bytes BadSettings is = is
-outside_explains set fsid t bytes NoHeader is = absurd is
-outside_explains set fsid t bytes (WrongFsid tree ring) is = absurd is
-outside_explains set fsid t bytes Spent is = absurd is
-outside_explains set fsid t bytes BadSeq is = absurd is
-outside_explains set fsid t bytes (JournalGap start committed) is = absurd is
-outside_explains set fsid t bytes (Damaged path) is = absurd is
-outside_explains set fsid t bytes (BadEntry seq) is = absurd is
-outside_explains set fsid t bytes OfTree is = tt
-outside_explains set fsid t bytes Device is = tt
-outside_explains set fsid t bytes Memory is = tt
+pub outside_explains : (id : Identity) (t : Tree) (bytes : List ℕ) (f : MountFault) → IsOutside f → ExplainsOf id t bytes f
+outside_explains id t bytes NotAStore is = is
+outside_explains id t bytes (WrongVersion found) is = is
+outside_explains id t bytes BadSettings is = is
+outside_explains id t bytes NoHeader is = absurd is
+outside_explains id t bytes (WrongFsid tree ring) is = absurd is
+outside_explains id t bytes Spent is = absurd is
+outside_explains id t bytes BadSeq is = absurd is
+outside_explains id t bytes (JournalGap start committed) is = absurd is
+outside_explains id t bytes (Damaged path) is = absurd is
+outside_explains id t bytes (BadEntry seq) is = absurd is
+outside_explains id t bytes OfTree is = tt
+outside_explains id t bytes Device is = tt
+outside_explains id t bytes Memory is = tt

@@ -1,3 +1,4 @@
 mod Opened
 mod Found
 mod Refused
+mod Made

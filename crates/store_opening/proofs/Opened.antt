@@ -1,6 +1,5 @@
 -- What was mounted, as a store.
 use Rattle.std.proofs.Common.{◌≡◌, ◌⊎◌, ⊎_elim, inl, inr, ℕ, ◌+◌, ◌≤◌, List, [], length, map, refl, sym, ◌∙◌, ap, subst, arith}
-use Rattle.fs_names.specs.declared.settings.Settings.{Settings}
 use Rattle.fs_model.specs.Objects.{Objects}
 use Rattle.fs_model.specs.Colls.{CollSet, colls_of}
 use Rattle.tree_api.specs.Tree.{Tree}
@@ -15,13 +14,13 @@ use Rattle.store_history.specs.Journal.{EachImage}
 use Rattle.store_history.specs.History.{History, end_of, at}
 use Rattle.store_history.specs.Images.{Images}
 use Rattle.store_history.specs.Pair.{StandsAt}
+use Rattle.store_files.specs.declared.reading.Identity.{Identity}
 use Rattle.store_turns.specs.declared.numbers.Numbers.{Numbers}
-use Rattle.store_turns.specs.State.{Holding}
 use Rattle.store_mount.specs.declared.mounting.Mounted.{Mounted}
 use Rattle.store_mount.specs.Mounts.{AllStand, Carries, PairsCarry, MountedAs, StandsNow, WasOrServes, WasOrStands}
 use Rattle.store_mount.proofs.Carried.{all_moments}
 use Rattle.store_queue.specs.Waiting.{Waiting, none_waiting}
-use Rattle.tree_places.specs.Images.{Image, reads}
+use Rattle.tree_places.specs.Images.{StoreImage, reads}
 use Rattle.tree_shows.specs.Shows.{Shows}
 use Rattle.history_tails.specs.Tails.{begun}
 use Rattle.history_tails.proofs.Tails.{tail_begun}
@@ -37,17 +36,17 @@ numbers_are m n last one two =
     ap (λ (k : ℕ). let x : Numbers = record { journalled = k; committed = m.committed } in x) two
     ∙ ap (λ (k : ℕ). let x : Numbers = record { journalled = last; committed = k } in x) one
 
-module _ (set : Settings) (fsid : List ℕ) (o : Objects) (n last : ℕ) (m : Mounted) (mid : Files) (d : Disk) (is : MountedAs (Image set) (reads set) fsid o n last m mid d) where
+module _ (id : Identity) (o : Objects) (n last : ℕ) (m : Mounted) (mid : Files) (d : Disk) (is : MountedAs (StoreImage id) (reads id.settings) id.fsid o n last m mid d) where
   -- the tree shows the objects, so the collections are theirs
-  pub shows_mounted : Shows set o mid.tree
+  pub shows_mounted : Shows id.settings o mid.tree
   shows_mounted =
-      subst (λ (O : Objects). Shows set O mid.tree) (ap (at is.history) is.journalled ∙ is.objects)
-      (shown_at set is.history m.numbers.journalled mid.tree is.holding.reads)
+      subst (λ (O : Objects). Shows id.settings O mid.tree) (ap (at is.history) is.journalled ∙ is.objects)
+      (shown_at id.settings is.history m.numbers.journalled mid.tree is.holding.reads)
 
-  pub mounts_as : (new : Files) → Stays mid new → m.ring.head.fsid ≡ fsid → (colls : CollSet) → colls ≡ colls_of o → (size : ℕ) (queue : Waiting)
-      → queue ≡ none_waiting colls m.numbers.journalled size → MountsAs o n last (working set m.numbers m.ring queue) new d
-  mounts_as new stays ring colls same size queue made =
-      subst (λ (q : Waiting). MountsAs o n last (working set m.numbers m.ring q) new d) (sym (made ∙ ap (λ (S : CollSet). none_waiting S m.numbers.journalled size) same)) (record {
+  pub mounts_as : (new : Files) → Stays mid new → (colls : CollSet) → colls ≡ colls_of o → (size : ℕ) (queue : Waiting)
+      → queue ≡ none_waiting colls m.numbers.journalled size → MountsAs o n last (working id m.numbers m.ring queue) new d
+  mounts_as new stays colls same size queue made =
+      subst (λ (q : Waiting). MountsAs o n last (working id m.numbers m.ring q) new d) (sym (made ∙ ap (λ (S : CollSet). none_waiting S m.numbers.journalled size) same)) (record {
         numbers = numbers_are m.numbers n last is.committed is.journalled;
         none = refl;
         holds = record {
@@ -55,8 +54,7 @@ module _ (set : Settings) (fsid : List ℕ) (o : Objects) (n last : ℕ) (m : Mo
           long = is.history;
           tail = tail_begun is.history last o is.end is.objects;
           end = omega (arith, is.journalled);
-          on = subst (λ (f : List ℕ). Holding (Image set) (reads set) f is.history m.numbers new m.ring d) (sym ring)
-              (holding_stays mid new stays set fsid is.history m.numbers m.ring d is.holding);
+          on = holding_stays mid new stays id id.fsid is.history m.numbers m.ring d is.holding;
           waits = waits_begun last o;
         };
       })

@@ -36,14 +36,30 @@ use store_queue::Queue;
 use tree_api::FileTree;
 use tree_shows::shows_law;
 
-// What a collection's set is made of.
+// Makes a collection among them.
+fn make_coll(made: &mut PlainObjects, c: Coll) -> Result<(), AllocError>
+    ensures { OnOk result (colls_of made.new ≡ set.insert (colls_of made.old) c) }
+{
+    colls_law();
+    let op = Op::MkColl { c };
+    made.apply(&op)
+}
+
+// No objects, in no collection.
+fn no_objects(alloc: Global) -> PlainObjects
+    ensures { colls_of result ≡ set.empty }
+{
+    colls_law();
+    PlainObjects::new(alloc)
+}
+
+// These collections as a set.
 fn coll_list(alloc: Global, names: &[Coll]) -> Result<CollList, AllocError>
     ensures { IfOk result (λ colls. colls ≡ set.from_list names.now) }
 {
-    colls_law();
-    let mut made = PlainObjects::new(alloc);
+    let mut made = no_objects(alloc);
     for c in names {
-        made.apply(&Op::MkColl { c: *c })?;
+        make_coll(&mut made, *c)?;
     }
     made.colls()
 }
