@@ -1,5 +1,5 @@
 -- A store that is closed behind the last line.
-use Rattle.std.proofs.Common.{◌≡◌, ℕ, ◌+◌, List, [], ◌++◌, length, refl, sym, ◌∙◌, ap, subst, arith}
+use Rattle.std.proofs.Common.{◌≡◌, ℕ, ◌+◌, List, [], ◌++◌, length, refl, sym, ◌∙◌, ap, subst, arith, Option, Some, None}
 use mathlib.Core.List.{append-nil}
 use Rattle.tree_api.specs.Tree.{Path}
 use Rattle.tree_api.specs.Disk.{Everywhere}
@@ -11,6 +11,8 @@ use Rattle.store_history.specs.History.{History, end_of, at}
 use Rattle.store_history.specs.Journal.{EachImage}
 use Rattle.store_history.specs.Pair.{Closed, PairsStand}
 use Rattle.tree_places.specs.Images.{StoreImage}
+use Rattle.file_store.specs.Faults.{ClosesBroken}
+use Rattle.file_store.specs.Store.{Store as Held, Works}
 use Rattle.file_store.specs.Holds.{Leaves, LeavesClosed, with_waiting}
 use Rattle.file_store.specs.declared.fault.First.{First}
 use Rattle.file_store.specs.declared.fault.TurnFault.{TurnFault}
@@ -68,6 +70,13 @@ module _ (id : Identity) (s : Session) (script : List Line) (store : ScriptStore
   all_halted (Refused refusal) only leaves = absurd only
 
 -- ---- what closing a store stops for
+
+-- one that works isn't broken
+pub unbroken : (s : Held) (fault : TurnFault) → Works s → ClosesBroken s fault → (first : First) → fault ≡ turn.Broken first → ⊥
+unbroken s fault works broken first e = absurd (none_some (sym works ∙ subst (ClosesBroken s) e broken))
+  where
+    none_some : ◌≡◌ {A = Option First} None (Some first) → ⊥
+    none_some same = cc
 
 close_only : (fault : TurnFault) → ((first : First) → fault ≡ turn.Broken first → ⊥) → ((p : Path) → fault ≡ turn.Damaged p → ⊥) → IsStartStop (close_stop fault)
 close_only turn.Tree whole sound = tt

@@ -27,9 +27,8 @@ pub fn close<T: FileTree, D: Device>(store: ScriptStore, tree: &mut T, dev: &mut
     ensures faults { (D.state dev.old).faults ≤ (D.state dev.new).faults }
     ensures extent { (D.state dev.new).size ≡ (D.state dev.old).size }
 {
-    let ScriptStore { store, .. } = store;
-    let mut store = store;
-    match store.drain(tree, dev) {
+    let ScriptStore { store, opened: _ } = store;
+    match store.close(tree, dev) {
         Ok(_) => Ok(()),
         Err(fault) => Err(close_stop(fault)),
     }

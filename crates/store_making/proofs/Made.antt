@@ -1,5 +1,5 @@
 -- A tree with all that is made, and nothing else.
-use Rattle.std.proofs.Common.{◌≡◌, ◌≢◌, inl, inr, ℕ, ◌+◌, ◌<◌, ◌≤◌, ◌^◌, false, List, [], ◌∷◌, ◌++◌, length, codes, refl, sym, ◌∙◌, ap, arith, Option, Some, None, length-append}
+use Rattle.std.proofs.Common.{◌≡◌, ◌≢◌, inl, inr, ℕ, ◌≤◌, false, List, [], ◌∷◌, ◌++◌, length, codes, refl, sym, ◌∙◌, ap, arith, Option, Some, None, length-append}
 use Rattle.std.specs.FinMap as fin
 use Rattle.std.specs.Option.{option_map}
 use Rattle.fs_names.specs.declared.coll.Coll.{Coll}
@@ -8,7 +8,7 @@ use Rattle.fs_names.specs.declared.settings.Settings.{Settings}
 use Rattle.fs_names.specs.Reading.{OidFits, CollFits, coll_of, pg_of, pg_from}
 use Rattle.fs_names.specs.Text.{coll_text}
 use Rattle.fs_names.proofs.CollLaw.{coll_texts_are_read}
-use Rattle.tree_api.specs.Tree.{Path, Version, Tree, IsDir, IsFile, IsFree, held, look, current}
+use Rattle.tree_api.specs.Tree.{Path, Version, Tree, IsFile, held, look}
 use Rattle.ring_frame.specs.Frame.{Entry}
 use Rattle.ring_images.specs.Held.{Left, readable}
 use Rattle.ring_journal.specs.State.{first_head}

@@ -1,9 +1,9 @@
 -- Paths where making a store puts nothing.
-use Rattle.std.proofs.Common.{◌≡◌, ◌≢◌, ℕ, ◌+◌, ◌<◌, ◌≤◌, List, [], ◌∷◌, ◌++◌, length, codes, refl, sym, ◌∙◌, ap, arith}
+use Rattle.std.proofs.Common.{◌≡◌, ◌≢◌, ℕ, ◌<◌, ◌≤◌, List, [], ◌∷◌, length, codes, refl, ap, arith}
 use Rattle.tree_api.specs.Tree.{Path, current}
 use Rattle.commit_point.specs.Number.{aside, number_path}
 use Rattle.store_files.specs.Stores.{version_path, fsid_path, settings_path, omap, trash}
-use Rattle.store_files.specs.Steps.{Off, key_path, rest_paths, store_paths}
+use Rattle.store_files.specs.Steps.{Off, key_path, store_paths}
 
 shorter : (q p : Path) (m : ℕ) → length p ≡ m → m < length q → q ≢ p
 shorter q p m is lt same = absurd (omega (arith, ap length same, is, lt))

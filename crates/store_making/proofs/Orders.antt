@@ -1,12 +1,12 @@
 -- The order in which a store is made.
-use Rattle.std.proofs.Common.{◌≡◌, ◌⊎◌, ⊎_elim, inl, inr, ℕ, List, [], ◌∷◌, codes, refl, sym, ◌∙◌, ap, subst, None}
+use Rattle.std.proofs.Common.{◌≡◌, ⊎_elim, inl, inr, ℕ, List, [], codes, None}
 use Rattle.fs_names.specs.declared.settings.Settings.{Settings}
 use Rattle.tree_api.specs.Tree.{Tree}
-use Rattle.tree_api.specs.Disk.{Disk, Sound, Everywhere, Keeps, Stays, Still, Leaves, From}
-use Rattle.tree_api.proofs.Moments.{started, goes_on, joined, weaker, now_from, still_same}
+use Rattle.tree_api.specs.Disk.{Disk, Sound, Everywhere, Keeps, Stays, Leaves, From}
+use Rattle.tree_api.proofs.Moments.{started, goes_on, joined, weaker, now_from}
 use Rattle.dev_api.specs.Disk.{Disk as Bytes}
 use Rattle.store_files.specs.Stores.{version_path, IsStore, IsUsable}
-use Rattle.store_files.specs.Steps.{AllIn, Among, IsBare, Unfinished, rest_items, store_items, store_paths}
+use Rattle.store_files.specs.Steps.{AllIn, Among, IsBare, Unfinished, store_items, store_paths}
 use Rattle.store_files.specs.Texts.{IsFsid}
 use Rattle.store_files.proofs.Whole.{made_is_store}
 use Rattle.commit_point.specs.Number.{HasNumber}

@@ -1,5 +1,5 @@
 -- What the faults of making a store tell.
-use Rattle.std.proofs.Common.{◌≡◌, ℕ, refl, sym, ap, subst, Result, Ok, Err}
+use Rattle.std.proofs.Common.{◌≡◌, ℕ, refl, subst, Result, Err}
 use Rattle.tree_api.specs.Tree.{Tree}
 use Rattle.ring_images.specs.Headers.{IsSize}
 use Rattle.store_files.specs.News.{IsNew}

@@ -1,7 +1,7 @@
 -- What is left where a store is made only in part.
-use Rattle.std.proofs.Common.{◌≡◌, ⊎_elim, ℕ, ◌<◌, ◌^◌, List, [], ◌∷◌, refl, sym, ◌∙◌, ap, arith, Option, Some, None}
+use Rattle.std.proofs.Common.{◌≡◌, ⊎_elim, ℕ, List, [], ◌∷◌, refl, sym, ◌∙◌, ap, arith, Option, Some, None}
 use Rattle.fs_names.specs.declared.settings.Settings.{Settings}
-use Rattle.tree_api.specs.Tree.{Path, Version, Tree, current, file_of, held, look, new_dir}
+use Rattle.tree_api.specs.Tree.{Tree, current, file_of, held, new_dir}
 use Rattle.tree_api.specs.Disk.{Disk, Sound, Everywhere, Keeps, Leaves, Stays}
 use Rattle.tree_api.proofs.Moments.{now_from}
 use Rattle.dev_api.specs.Disk.{Disk as Bytes}
@@ -10,7 +10,7 @@ use Rattle.store_files.specs.Texts.{fsid_text, settings_text, IsFsid}
 use Rattle.store_files.specs.Stores.{HasVersion, IsStore, IsUsable, fsid_path, omap, settings_path, trash, version_path}
 use Rattle.store_files.specs.Steps.{AllIn, Among, IsBare, dir_items, key_path, rest_items, store_paths}
 use Rattle.store_files.proofs.Built.{in_first, in_rest, dir_of_look}
-use Rattle.store_making.specs.Making.{IsMade, MakesEmpty, Unmade, VersionLast}
+use Rattle.store_making.specs.Making.{Unmade, VersionLast}
 use Rattle.store_making.proofs.Made.{closed}
 use Rattle.store_making.proofs.Orders.{came, no_version}
 
@@ -19,7 +19,7 @@ none_or x e = cc
 
 -- what is not there has no version
 unversioned : (fsid : List ℕ) (set : Settings) (size : ℕ) (d : Bytes) (t : Tree) → t.at version_path ≡ None → Unmade fsid set size t d
-unversioned fsid set size d t none = λ (fits, v, there, kind, text). absurd (none_or v (sym (ap (λ (o : Option ℕ). held o t.node) none) ∙ there))
+unversioned fsid set size d t none = λ version. absurd (none_or version.1.0 (sym (ap (λ (o : Option ℕ). held o t.node) none) ∙ version.1.1))
 
 -- all but the version, and the version
 whole : (fsid : List ℕ) (set : Settings) (t : Tree) → IsFsid fsid → IsUsable set → AllIn (rest_items fsid set) t → HasVersion t 1 → IsStore t fsid set × HasNumber t 0

@@ -1,14 +1,13 @@
-use Rattle.std.proofs.Common.{◌≡◌, ℕ, sym, ap, subst, rules}
+use Rattle.std.proofs.Common.{sym, subst, rules}
 use Rattle.tree_api.specs.Tree.{Tree}
-use Rattle.tree_api.specs.Disk.{Everywhere}
 use Rattle.tree_api.proofs.Moments.{stays_joins}
 use Rattle.store_files.specs.News.{IsNew}
-use Rattle.store_files.specs.Steps.{IsBare, Unfinished}
+use Rattle.store_files.specs.Steps.{Unfinished}
 use Rattle.store_making.specs.Making.{VersionLast}
 use Rattle.store_making.proofs.Made.{closed}
 use Rattle.store_making.proofs.Orders.{then_made, each_early, order_early, order_late, is_store, came}
 use Rattle.store_making.proofs.Telling.{begun_new}
-use Rattle.store_making.proofs.Unmade.{unmade_early, unmade_late}
+use Rattle.store_making.proofs.Unmade.{unmade_late}
 use Rattle.store_making.proofs.making.make_store.Goals as goal
 
 pub returns-in-Err-make_files-clause-refused : goal.returns-in-Err-make_files-clause-refused
@@ -118,7 +117,7 @@ returns-in-Err-make_files-clause-each_pair g c = λ tells told bare usable.
     let d = (g.D.Device.state c.make_ring.new.dev).disk in
     let P : Tree → Type 0 = VersionLast c.args.fsid.now c.args.set.now size d in
     let order = then_made P (order_early c.args.fsid.now c.args.set.now size d) old (g.met.T.FileTree.sound c.args.tree.now (search rules)) bare mid now stays
-        (order_late c.args.fsid.now c.args.set.now size d mid now (c.in-Ok-make_ring.ensures.made (search rules)) (c.make_files.ensures.each (search rules) bare_mid)) in
+    (order_late c.args.fsid.now c.args.set.now size d mid now (c.in-Ok-make_ring.ensures.made (search rules)) (c.make_files.ensures.each (search rules) bare_mid)) in
     unmade_late c.args.fsid.now c.args.set.now c.is_fsid.ensures usable size d old mid now (g.met.T.FileTree.sound c.make_files.new.tree (search rules)) bare_mid (c.make_files.ensures.leaves (search rules)) order
 
 pub returns-clause-each_pair : goal.returns-clause-each_pair
@@ -134,5 +133,5 @@ returns-clause-each_pair g c = λ tells told bare usable.
     let d = (g.D.Device.state c.make_ring.new.dev).disk in
     let P : Tree → Type 0 = VersionLast c.args.fsid.now c.args.set.now size d in
     let order = then_made P (order_early c.args.fsid.now c.args.set.now size d) old (g.met.T.FileTree.sound c.args.tree.now (search rules)) bare mid now stays
-        (order_late c.args.fsid.now c.args.set.now size d mid now (c.in-Ok-make_ring.ensures.made (search rules)) (c.make_files.ensures.each (search rules) bare_mid)) in
+    (order_late c.args.fsid.now c.args.set.now size d mid now (c.in-Ok-make_ring.ensures.made (search rules)) (c.make_files.ensures.each (search rules) bare_mid)) in
     unmade_late c.args.fsid.now c.args.set.now c.is_fsid.ensures usable size d old mid now (g.met.T.FileTree.sound c.make_files.new.tree (search rules)) bare_mid (c.make_files.ensures.leaves (search rules)) order
