@@ -1,17 +1,19 @@
 -- A store that is closed behind the last line.
-use Rattle.std.proofs.Common.{◌≡◌, ℕ, ◌+◌, ◌≤◌, List, [], ◌++◌, length, refl, sym, ◌∙◌, ap, subst, arith}
+use Rattle.std.proofs.Common.{◌≡◌, ℕ, ◌+◌, List, [], ◌++◌, length, refl, sym, ◌∙◌, ap, subst, arith, Option, Some, None}
 use mathlib.Core.List.{append-nil}
-use Rattle.std.specs.Prelude.{Result, Ok, Err, OnOk, IfErr}
-use Rattle.tree_api.specs.Tree.{Tree, Path}
+use Rattle.tree_api.specs.Tree.{Path}
+use Rattle.tree_api.specs.Disk.{Everywhere}
 use Rattle.io_edge.specs.Flow.{Outflow}
 use Rattle.fs_script.specs.declared.statement.Line.{Line}
 use Rattle.fs_session.specs.Answers.{Session, queued_by}
+use Rattle.store_files.specs.declared.reading.Identity.{Identity}
 use Rattle.store_history.specs.History.{History, end_of, at}
 use Rattle.store_history.specs.Journal.{EachImage}
-use Rattle.store_history.specs.Pair.{Closed}
-use Rattle.tree_places.specs.Images.{Image}
-use Rattle.file_store.specs.Store.{Store as Held, waiting_in}
-use Rattle.file_store.specs.Holds.{Leaves, with_waiting}
+use Rattle.store_history.specs.Pair.{Closed, PairsStand}
+use Rattle.tree_places.specs.Images.{StoreImage}
+use Rattle.file_store.specs.Faults.{ClosesBroken}
+use Rattle.file_store.specs.Store.{Store as Held, Works}
+use Rattle.file_store.specs.Holds.{Leaves, LeavesClosed, with_waiting}
 use Rattle.file_store.specs.declared.fault.First.{First}
 use Rattle.file_store.specs.declared.fault.TurnFault.{TurnFault}
 use Rattle.file_store.specs.declared.fault.TurnFault.TheVariants as turn
@@ -20,36 +22,34 @@ use Rattle.script_store.specs.declared.fault.StepFault.{StepFault}
 use Rattle.script_store.specs.declared.fault.StepFault.TheVariants as stepping
 use Rattle.script_store.specs.Script.{OpLists}
 use Rattle.filestore_cli.specs.declared.stop.Stop.{Stop}
-use Rattle.filestore_cli.specs.declared.stop.Stop.TheVariants.{Sink}
+use Rattle.filestore_cli.specs.declared.stop.Stop.TheVariants.{Usage, Tree, Device, Source, Sink, Memory, Refused}
 use Rattle.filestore_cli.specs.Seen.{Seen, SeenSides, Sides, Says, TreeFails, DeviceFails}
-use Rattle.filestore_cli.specs.Opened.{ClosedOn, HasRun, held_by}
+use Rattle.filestore_cli.specs.Opened.{HasRun, held_by}
 use Rattle.filestore_cli.specs.Stop.{close_stop, step_stop}
-use Rattle.filestore_cli.specs.Run.{Survives, IsClosed, Done, Stopped, Halted, IsFree, IsCausedBy, IsStepStop}
+use Rattle.filestore_cli.specs.Run.{Survives, IsClosed, Done, Stopped, Halted, IsCausedBy, IsStartCaused, IsStartStop, IsStepStop, history}
 
-module _ (s : Session) (script : List Line) (store : ScriptStore) (sink : Seen Outflow) (w v : Sides) (run : HasRun s script store w sink) where
+module _ (id : Identity) (s : Session) (script : List Line) (store : ScriptStore) (sink : Seen Outflow) (w v : Sides) (run : HasRun id s script store w sink) where
   h : History
   h = held_by s run.txns
 
-  survive : (tried : List Line) → tried ≡ script → Leaves (with_waiting h store.store) (end_of h) store.store v.tree v.device.disk → Survives s script tried v
+  survive : (tried : List Line) → tried ≡ script → Leaves (with_waiting h store.store) (end_of h) store.store v.tree v.device.disk → Survives id s script tried v
   survive tried e leaves = record {
-    store = record { fsid = store.store.ring.head.fsid; set = store.store.set };
     low = s.last + length run.txns;
-    leaves = subst (λ (l : OpLists). Leaves (held_by s l) (end_of h) store.store v.tree v.device.disk) (sym run.split ∙ ap (queued_by s) (sym e)) leaves;
+    leaves =
+        subst (λ (i : Identity). PairsStand (StoreImage i) i.fsid (history s tried) (s.last + length run.txns) v.tree.may v.device.disk) run.is
+        (subst (λ (l : OpLists). Leaves (held_by s l) (end_of h) store.store v.tree v.device.disk) (sym run.split ∙ ap (queued_by s) (sym e)) leaves);
     acked = run.acked;
   }
 
-  pub all_done : ClosedOn store.store v (at (with_waiting h store.store) (end_of (with_waiting h store.store)))
-      → Leaves (with_waiting h store.store) (end_of h) store.store v.tree v.device.disk → Done s script sink v
-  all_done closed leaves = record {
-    written = run.written;
-    survives = survive script refl leaves;
-    closed = record {
-      store = record { fsid = store.store.ring.head.fsid; set = store.store.set };
-      closed = subst (λ (l : OpLists). ClosedOn store.store v (at (held_by s l) (end_of (held_by s l)))) (sym run.split) closed;
-    };
-  }
+  closed_all : LeavesClosed (with_waiting h store.store) store.store v.tree v.device.disk → IsClosed id s script v
+  closed_all closed =
+      subst (λ (i : Identity). Everywhere v.tree (λ t. EachImage (λ c. Closed (StoreImage i) i.fsid t c (at (history s script) (end_of (history s script)))) v.device.disk)) run.is
+      (subst (λ (l : OpLists). LeavesClosed (held_by s l) store.store v.tree v.device.disk) (sym run.split) closed)
 
-  stopped : Leaves (with_waiting h store.store) (end_of h) store.store v.tree v.device.disk → Stopped s script (Says sink) v
+  pub all_done : LeavesClosed (with_waiting h store.store) store.store v.tree v.device.disk → Leaves (with_waiting h store.store) (end_of h) store.store v.tree v.device.disk → Done id s script sink v
+  all_done closed leaves = record { written = run.written; survives = survive script refl leaves; closed = closed_all closed }
+
+  stopped : Leaves (with_waiting h store.store) (end_of h) store.store v.tree v.device.disk → Stopped id s script (Says sink) v
   stopped leaves = record {
     done = script;
     tried = [];
@@ -60,38 +60,45 @@ module _ (s : Session) (script : List Line) (store : ScriptStore) (sink : Seen O
     survives = survive (script ++ []) (append-nil script) leaves;
   }
 
-  halted : (fault : TurnFault) → ((first : First) → fault ≡ turn.Broken first → ⊥) → ((p : Path) → fault ≡ turn.Damaged p → ⊥)
-      → Leaves (with_waiting h store.store) (end_of h) store.store v.tree v.device.disk → Halted s script (Says sink) sink v (close_stop fault)
-  halted turn.Tree whole sound leaves = stopped leaves
-  halted turn.Device whole sound leaves = stopped leaves
-  halted turn.Memory whole sound leaves = stopped leaves
-  halted (turn.Damaged path) whole sound leaves = absurd (sound path refl)
-  halted (turn.Broken first) whole sound leaves = absurd (whole first refl)
+  pub all_halted : (stop : Stop) → IsStartStop stop → Leaves (with_waiting h store.store) (end_of h) store.store v.tree v.device.disk → Halted id s script (Says sink) sink v stop
+  all_halted Tree only leaves = stopped leaves
+  all_halted Device only leaves = stopped leaves
+  all_halted Memory only leaves = stopped leaves
+  all_halted Usage only leaves = absurd only
+  all_halted Source only leaves = absurd only
+  all_halted Sink only leaves = absurd only
+  all_halted (Refused refusal) only leaves = absurd only
 
-  pub all_halted : (stop : Stop) (fault : TurnFault) → stop ≡ close_stop fault → ((first : First) → fault ≡ turn.Broken first → ⊥) → ((p : Path) → fault ≡ turn.Damaged p → ⊥)
-      → Leaves (with_waiting h store.store) (end_of h) store.store v.tree v.device.disk → Halted s script (Says sink) sink v stop
-  all_halted stop fault e whole sound leaves = subst (Halted s script (Says sink) sink v) (sym e) (halted fault whole sound leaves)
+-- ---- what closing a store stops for
 
-free : (fault : TurnFault) → ((p : Path) → fault ≡ turn.Damaged p → ⊥) → IsFree (close_stop fault)
-free turn.Tree sound = tt
-free turn.Device sound = tt
-free turn.Memory sound = tt
-free (turn.Damaged path) sound = absurd (sound path refl)
-free (turn.Broken first) sound = tt
+-- one that works isn't broken
+pub unbroken : (s : Held) (fault : TurnFault) → Works s → ClosesBroken s fault → (first : First) → fault ≡ turn.Broken first → ⊥
+unbroken s fault works broken first e = absurd (none_some (sym works ∙ subst (ClosesBroken s) e broken))
+  where
+    none_some : ◌≡◌ {A = Option First} None (Some first) → ⊥
+    none_some same = cc
 
-pub close_free : (stop : Stop) (fault : TurnFault) → stop ≡ close_stop fault → ((p : Path) → fault ≡ turn.Damaged p → ⊥) → IsFree stop
-close_free stop fault e sound = subst IsFree (sym e) (free fault sound)
+close_only : (fault : TurnFault) → ((first : First) → fault ≡ turn.Broken first → ⊥) → ((p : Path) → fault ≡ turn.Damaged p → ⊥) → IsStartStop (close_stop fault)
+close_only turn.Tree whole sound = tt
+close_only turn.Device whole sound = tt
+close_only turn.Memory whole sound = tt
+close_only (turn.Damaged path) whole sound = absurd (sound path refl)
+close_only (turn.Broken first) whole sound = absurd (whole first refl)
 
-caused : (w : SeenSides) (k : Seen Outflow) (fault : TurnFault) → (fault ≡ turn.Tree → TreeFails w) → (fault ≡ turn.Device → DeviceFails w) → IsCausedBy w k (close_stop fault)
-caused w k turn.Tree tree device = tree refl
-caused w k turn.Device tree device = device refl
-caused w k turn.Memory tree device = tt
-caused w k (turn.Damaged path) tree device = tt
-caused w k (turn.Broken first) tree device = tt
+pub closed_only : (stop : Stop) (fault : TurnFault) → stop ≡ close_stop fault → ((first : First) → fault ≡ turn.Broken first → ⊥) → ((p : Path) → fault ≡ turn.Damaged p → ⊥) → IsStartStop stop
+closed_only stop fault e whole sound = subst IsStartStop (sym e) (close_only fault whole sound)
 
-pub close_caused : (w : SeenSides) (k : Seen Outflow) (stop : Stop) (fault : TurnFault) → stop ≡ close_stop fault → (fault ≡ turn.Tree → TreeFails w) → (fault ≡ turn.Device → DeviceFails w)
-    → IsCausedBy w k stop
-close_caused w k stop fault e tree device = subst (IsCausedBy w k) (sym e) (caused w k fault tree device)
+close_caused : (w : SeenSides) (fault : TurnFault) → (fault ≡ turn.Tree → TreeFails w) → (fault ≡ turn.Device → DeviceFails w) → IsStartCaused w (close_stop fault)
+close_caused w turn.Tree tree device = tree refl
+close_caused w turn.Device tree device = device refl
+close_caused w turn.Memory tree device = tt
+close_caused w (turn.Damaged path) tree device = tt
+close_caused w (turn.Broken first) tree device = tt
+
+pub closed_caused : (w : SeenSides) (stop : Stop) (fault : TurnFault) → stop ≡ close_stop fault → (fault ≡ turn.Tree → TreeFails w) → (fault ≡ turn.Device → DeviceFails w) → IsStartCaused w stop
+closed_caused w stop fault e tree device = subst (IsStartCaused w) (sym e) (close_caused w fault tree device)
+
+-- ---- what a statement stops for
 
 step_caused : (w : SeenSides) (k : Seen Outflow) (fault : StepFault) → (fault ≡ stepping.Tree → TreeFails w) → (fault ≡ stepping.Device → DeviceFails w) → IsCausedBy w k (step_stop fault)
 step_caused w k stepping.Tree tree device = tree refl

@@ -9,6 +9,7 @@ use Rattle.fs_script.specs.declared.fault.ScriptWhy.TheVariants.{TooLong}
 use Rattle.fs_script.specs.Grammar.{script_said, script_limit}
 use Rattle.fs_session.specs.Answers.{Session, answers_text}
 use Rattle.script_store.specs.declared.store.ScriptStore.{ScriptStore}
+use Rattle.store_files.specs.declared.reading.Identity.{Identity}
 use Rattle.filestore_cli.specs.declared.command.Command.{Command}
 use Rattle.filestore_cli.specs.declared.stop.Refusal.{Refusal}
 use Rattle.filestore_cli.specs.declared.stop.Refusal.TheVariants.{Script, Store, Size, NotEmpty, Damaged}
@@ -17,7 +18,7 @@ use Rattle.filestore_cli.specs.declared.stop.Stop.TheVariants.{Usage, Tree as Tr
 use Rattle.filestore_cli.specs.Seen.{Seen, SeenSides, Sides, Scene, scene as on, moves, turns, Says, SinkFailed, EndsWith, TreeFails, DeviceFails}
 use Rattle.filestore_cli.specs.Opened.{Opens, OfOpened}
 use Rattle.filestore_cli.specs.Stop.{status_of, line_of, usage_line, memory_line, TakesMemory, Ended}
-use Rattle.filestore_cli.specs.Run.{Survives, Begun, Done, CanStart, Unstarted, Cut, Stopped, Halted, Halts, Unread, Stops, Unheard, StopsOn, StopsWith, AnswersAll, AnswersScript, Answers, IsCaused, IsCausedBy, IsStartCaused, IsFree, IsStepStop, IsStartStop, RunStops}
+use Rattle.filestore_cli.specs.Run.{Survives, Begun, Done, CanStart, CouldStart, Unstarted, Cut, Stopped, Halted, Halts, Unread, Stops, Unheard, StopsOn, StopsWith, AnswersAll, AnswersScript, Answers, IsCaused, IsCausedBy, IsStartCaused, IsFree, IsStepStop, IsStartStop, RunStops}
 use Rattle.io_edge.proofs.Writing.{counted_since}
 use Rattle.filestore_cli.proofs.Saying.{ends_then, part_still}
 
@@ -95,14 +96,14 @@ start_free (Refused refusal) only = absurd only
 
 -- each session that the command begins with was opened in between
 module _ {A : Type 0} (command : Command) (w : SeenSides) (between : Sides) (script : List Line) (k : Seen Outflow) (store : ScriptStore)
-    (opens : Begun command w (Opens store between)) where
-  pub ran_all : (r : Result A Stop) → ((s : Session) → Opens store between s → OnOk r (Done s script k w.new)) → OnOk r (AnswersScript command w script k)
-  ran_all (Ok x) done = λ bytes said. record { script = script; said = said; done = λ s starts. done s (opens s starts) }
+    (could : CouldStart command w.old) (opens : Begun command w (Opens store between)) where
+  pub ran_all : (r : Result A Stop) → ((id : Identity) (s : Session) → Opens store between id s → OnOk r (Done id s script k w.new)) → OnOk r (AnswersScript command w script k)
+  ran_all (Ok x) done = λ bytes said. record { script = script; said = said; could = could; done = λ id s starts. done id s (opens id s starts) }
   ran_all (Err stop) done = tt
 
-  pub ran_halts : (r : Result A Stop) → ((s : Session) → Opens store between s → IfErr r (Halted s script (Says k) k w.new)) → IfErr r (Halts command w script (Says k) k)
+  pub ran_halts : (r : Result A Stop) → ((id : Identity) (s : Session) → Opens store between id s → IfErr r (Halted id s script (Says k) k w.new)) → IfErr r (Halts command w script (Says k) k)
   ran_halts (Ok x) h = tt
-  ran_halts (Err stop) h = inr (λ s starts. h s (opens s starts))
+  ran_halts (Err stop) h = inr (could, λ id s starts. h id s (opens id s starts))
 
 module _ {A : Type 0} (command : Command) (w : SeenSides) (bytes : List ℕ) (script : List Line) (k : Seen Outflow) (said : script_said bytes ≡ Ok script) where
   pub text_all : (r : Result A Stop) → OnOk r (AnswersScript command w script k) → OnOk r (AnswersAll command w bytes k)
@@ -140,30 +141,30 @@ not_said r x e said is = absurd (no_ok (sym said ∙ is))
 
 -- ---- with the last line
 
-stopped_map : (s : Session) (script : List Line) (V W : List ℕ → Type 0) (w : Sides) → ((text : List ℕ) → V text → W text) → Stopped s script V w → Stopped s script W w
-stopped_map s script V W w f h =
+stopped_map : (id : Identity) (s : Session) (script : List Line) (V W : List ℕ → Type 0) (w : Sides) → ((text : List ℕ) → V text → W text) → Stopped id s script V w → Stopped id s script W w
+stopped_map id s script V W w f h =
     record { done = h.done; tried = h.tried; rest = h.rest; few = h.few; cut = h.cut; written = f (answers_text s h.done) h.written; survives = h.survives }
 
-cut_map : (s : Session) (script : List Line) (t u : Type 0) (a b c : Outflow) (w : Sides) → (u → t) → EndsWith (moves u b c) [] []
-    → Cut s script (moves t a b) w → Cut s script (moves u a c) w
-cut_map s script t u a b c w heard still h =
+cut_map : (id : Identity) (s : Session) (script : List Line) (t u : Type 0) (a b c : Outflow) (w : Sides) → (u → t) → EndsWith (moves u b c) [] []
+    → Cut id s script (moves t a b) w → Cut id s script (moves u a c) w
+cut_map id s script t u a b c w heard still h =
     record { done = h.done; line = h.line; rest = h.rest; cut = h.cut; written = part_still t u a b c _ _ heard h.written still; survives = h.survives }
 
 module _ (t u : Type 0) (a b c : Outflow) (heard : u → t) (le : a.faults ≤ b.faults) where
-  halted_ends : (s : Session) (script : List Line) (w : Sides) (stop : Stop) → EndsWith (moves u b c) [] (line_of stop)
-      → Halted s script (Says (moves t a b)) (moves t a b) w stop → Halted s script (λ text. EndsWith (moves u a c) text (line_of stop)) (moves u a c) w stop
-  halted_ends s script w Usage ends h = h
-  halted_ends s script w TreeStop ends h = stopped_map s script _ _ w (λ text says. ends_then t u a b c text _ heard le says ends) h
-  halted_ends s script w Device ends h = stopped_map s script _ _ w (λ text says. ends_then t u a b c text _ heard le says ends) h
-  halted_ends s script w Source ends h = h
-  halted_ends s script w Sink ends h = cut_map s script t u a b c w heard ends h
-  halted_ends s script w Memory ends h = stopped_map s script _ _ w (λ text says. ends_then t u a b c text _ heard le says ends) h
-  halted_ends s script w (Refused refusal) ends h = h
+  halted_ends : (id : Identity) (s : Session) (script : List Line) (w : Sides) (stop : Stop) → EndsWith (moves u b c) [] (line_of stop)
+      → Halted id s script (Says (moves t a b)) (moves t a b) w stop → Halted id s script (λ text. EndsWith (moves u a c) text (line_of stop)) (moves u a c) w stop
+  halted_ends id s script w Usage ends h = h
+  halted_ends id s script w TreeStop ends h = stopped_map id s script _ _ w (λ text says. ends_then t u a b c text _ heard le says ends) h
+  halted_ends id s script w Device ends h = stopped_map id s script _ _ w (λ text says. ends_then t u a b c text _ heard le says ends) h
+  halted_ends id s script w Source ends h = h
+  halted_ends id s script w Sink ends h = cut_map id s script t u a b c w heard ends h
+  halted_ends id s script w Memory ends h = stopped_map id s script _ _ w (λ text says. ends_then t u a b c text _ heard le says ends) h
+  halted_ends id s script w (Refused refusal) ends h = h
 
   halts_ends : (command : Command) (w : SeenSides) (script : List Line) (stop : Stop) → EndsWith (moves u b c) [] (line_of stop)
       → Halts command w script (Says (moves t a b)) (moves t a b) stop → Halts command w script (λ text. EndsWith (moves u a c) text (line_of stop)) (moves u a c) stop
   halts_ends command w script stop ends (inl h) = inl (h.0, ends_then t u a b c [] (line_of stop) heard le h.1 ends)
-  halts_ends command w script stop ends (inr h) = inr (λ s starts. halted_ends s script w.new stop ends (h s starts))
+  halts_ends command w script stop ends (inr h) = inr (h.0, λ id s starts. halted_ends id s script w.new stop ends (h.1 id s starts))
 
   stops_ends : (command : Command) (w : SeenSides) (bytes : List ℕ) (stop : Stop) → EndsWith (moves u b c) [] (line_of stop)
       → Stops command w bytes (Says (moves t a b)) (moves t a b) stop → Stops command w bytes (λ text. EndsWith (moves u a c) text (line_of stop)) (moves u a c) stop
@@ -177,15 +178,15 @@ module _ (t u : Type 0) (a b c : Outflow) (heard : u → t) (le : a.faults ≤ b
 
 -- no memory for the line of a refusal: a store that works refuses nothing
 module _ (W : List ℕ → Type 0) (k : Seen Outflow) (refusal : Refusal) where
-  halted_lack : (s : Session) (script : List Line) (w : Sides) → Halted s script W k w (Refused refusal) → Halted s script W k w Memory
-  halted_lack s script w h = absurd h
+  halted_lack : (id : Identity) (s : Session) (script : List Line) (w : Sides) → Halted id s script W k w (Refused refusal) → Halted id s script W k w Memory
+  halted_lack id s script w h = absurd h
 
   halts_lack : (command : Command) (w : SeenSides) (script : List Line) → Halts command w script W k (Refused refusal) → Halts command w script W k Memory
   halts_lack command w script (inl h) = inl (lack command h.0, h.1)
     where
       lack : (c : Command) → Unstarted c w (Refused refusal) → Unstarted c w Memory
       lack c u = u.1
-  halts_lack command w script (inr h) = inr (λ s starts. halted_lack s script w.new (h s starts))
+  halts_lack command w script (inr h) = inr (h.0, λ id s starts. halted_lack id s script w.new (h.1 id s starts))
 
   stops_lack : (command : Command) (w : SeenSides) (bytes : List ℕ) → Stops command w bytes W k (Refused refusal) → Stops command w bytes W k Memory
   stops_lack command w bytes (inl h) = inl (tt, h.1, h.2)

@@ -1,25 +1,22 @@
 -- A store that a run has opened, and closes.
 use Rattle.std.specs.Prelude.{◌≡◌, ℕ, ◌+◌, ◌≤◌, ◌++◌, List, length, Contains}
 use Rattle.io_edge.specs.Flow.{Outflow}
-use Rattle.tree_api.specs.Tree.{Tree}
+use Rattle.store_files.specs.declared.reading.Identity.{Identity}
 use Rattle.store_history.specs.History.{History, replay_of}
-use Rattle.store_history.specs.Journal.{EachImage}
-use Rattle.store_history.specs.Pair.{Closed}
 use Rattle.history_tails.specs.Tails.{begun}
-use Rattle.tree_places.specs.Images.{Image}
-use Rattle.fs_model.specs.Objects.{Objects}
 use Rattle.fs_script.specs.declared.statement.Line.{Line}
 use Rattle.fs_script.specs.declared.answer.Answer.TheVariants.{Drained}
 use Rattle.fs_session.specs.Answers.{Session, answers, queued_by, answers_text}
-use Rattle.file_store.specs.Store.{Store as Held, waiting_in}
+use Rattle.file_store.specs.Store.{waiting_in}
 use Rattle.script_store.specs.declared.store.ScriptStore.{ScriptStore}
 use Rattle.script_store.specs.Script.{OpLists, session_on}
 use Rattle.script_store.specs.Held.{HoldsOn}
 use Rattle.filestore_cli.specs.Seen.{Seen, Sides, SeenSides, Says}
 use Rattle.filestore_cli.specs.Run.{IsFresh}
 
--- Both sides hold the objects of the session, which statements see first.
-pub record Opens (store : ScriptStore) (w : Sides) (s : Session) : Type 0 where
+-- It is this store, and both sides hold the objects of the session, which statements see first.
+pub record Opens (store : ScriptStore) (w : Sides) (id : Identity) (s : Session) : Type 0 where
+  pub is : store.store.identity ≡ id
   pub holds : HoldsOn (begun s.last s.objects) store w.tree w.device
   pub session : session_on (begun s.last s.objects) store ≡ s
   pub fresh : IsFresh s
@@ -29,19 +26,16 @@ abbrev pub OfHeld : SeenSides → ScriptStore → (History → Type 0) → Type 
 OfHeld w store Says = w.told → (h : History) → HoldsOn h store w.old.tree w.old.device → Says h
 
 -- of each session that was opened
-abbrev pub OfOpened : SeenSides → ScriptStore → (Session → Type 0) → Type 0
-OfOpened w store Says = w.told → (s : Session) → Opens store w.old s → Says s
-
--- each pair is a closed store of these objects, with the identity and the settings of that one
-abbrev pub ClosedOn : Held → Sides → Objects → Type 0
-ClosedOn s w o = (t : Tree) → w.tree.may t → EachImage (λ c. Closed (Image s.set) s.ring.head.fsid t c o) w.device.disk
+abbrev pub OfOpened : SeenSides → ScriptStore → (Identity → Session → Type 0) → Type 0
+OfOpened w store Says = w.told → (id : Identity) (s : Session) → Opens store w.old id s → Says id s
 
 -- the session's objects, and these transactions since
 abbrev pub held_by : Session → OpLists → History
 held_by s txns = replay_of s.last s.objects txns
 
 -- All lines of the script were done: the store holds some of the transactions that they queued, and the others wait.
-pub record HasRun (s : Session) (script : List Line) (store : ScriptStore) (w : Sides) (sink : Seen Outflow) : Type 0 where
+pub record HasRun (id : Identity) (s : Session) (script : List Line) (store : ScriptStore) (w : Sides) (sink : Seen Outflow) : Type 0 where
+  pub is : store.store.identity ≡ id
   pub txns : OpLists
   pub split : queued_by s script ≡ txns ++ waiting_in store.store
   pub holds : HoldsOn (held_by s txns) store w.tree w.device

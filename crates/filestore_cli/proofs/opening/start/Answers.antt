@@ -1,10 +1,10 @@
 use Rattle.std.proofs.Common.{rules, sym, subst}
-use Rattle.std.specs.Prelude.{IfErr, IfOk}
+use Rattle.std.specs.Prelude.{IfErr, IfOk, OnOk}
 use Rattle.script_store.specs.declared.store.ScriptStore.{ScriptStore}
 use Rattle.filestore_cli.specs.declared.command.Command.{Command}
 use Rattle.filestore_cli.specs.Seen.{turns, sides}
 use Rattle.filestore_cli.specs.Opened.{Opens}
-use Rattle.filestore_cli.specs.Run.{Begun, CanStart, IsStartStop, Unstarted}
+use Rattle.filestore_cli.specs.Run.{Begun, CanStart, CouldStart, IsStartStop, Unstarted}
 use Rattle.filestore_cli.proofs.opening.start.Goals as goal
 
 pub returns-in-RunNew-clause-opens : goal.returns-in-RunNew-clause-opens
@@ -37,3 +37,12 @@ returns-in-Run-clause-free g c = λ told can.
     let w = turns (g.T.FileTree.tells c.mount_store.new.tree × g.D.Device.tells c.mount_store.new.dev) (sides (g.T.FileTree.disk c.args.tree.now) (g.D.Device.state c.args.dev.now)) (sides (g.T.FileTree.disk c.mount_store.new.tree) (g.D.Device.state c.mount_store.new.dev)) in
     c.mount_store.ensures.free told (subst (λ (k : Command). CanStart k w.old) c.in-Run.is can)
 
+pub returns-in-RunNew-clause-could : goal.returns-in-RunNew-clause-could
+returns-in-RunNew-clause-could g c = λ told.
+    let w = turns (g.T.FileTree.tells c.make_new.new.tree × g.D.Device.tells c.make_new.new.dev) (sides (g.T.FileTree.disk c.args.tree.now) (g.D.Device.state c.args.dev.now)) (sides (g.T.FileTree.disk c.make_new.new.tree) (g.D.Device.state c.make_new.new.dev)) in
+    subst (λ (k : Command). OnOk c.make_new.result (CouldStart k w.old)) (sym c.in-RunNew.is) (c.make_new.ensures.could told)
+
+pub returns-in-Run-clause-could : goal.returns-in-Run-clause-could
+returns-in-Run-clause-could g c = λ told.
+    let w = turns (g.T.FileTree.tells c.mount_store.new.tree × g.D.Device.tells c.mount_store.new.dev) (sides (g.T.FileTree.disk c.args.tree.now) (g.D.Device.state c.args.dev.now)) (sides (g.T.FileTree.disk c.mount_store.new.tree) (g.D.Device.state c.mount_store.new.dev)) in
+    subst (λ (k : Command). OnOk c.mount_store.result (CouldStart k w.old)) (sym c.in-Run.is) (c.mount_store.ensures.could told)

@@ -8,11 +8,11 @@ use Rattle.filestore_cli.proofs.run.run_lines.Goals as goal
 
 pub loop-line-init : goal.loop-line-init
 loop-line-init g c = record {
-  going = λ told heard s opens. going_first _ s c.args.script c.args.store _ _ opens;
+  going = λ told heard id s opens. going_first _ id s c.args.script c.args.store _ _ opens;
   works = c.requires.works;
   is_tree = c.requires.tree;
   is_device = c.requires.device;
-  same = record { set = refl; fsid = refl; size = refl };
+  same = record { identity = refl; size = refl };
   later = omega arith;
   tree_faults = omega arith;
   faults = omega arith;
@@ -23,10 +23,10 @@ loop-line-init g c = record {
 }
 
 pub returns-in-Err-clause-halts : goal.returns-in-Err-clause-halts
-returns-in-Err-clause-halts g c = λ told s opens.
-    let going = c.loop-line.invariant.going (c.answer.ensures.told told.0) (c.answer.ensures.honest told.1) s opens in
+returns-in-Err-clause-halts g c = λ told id s opens.
+    let going = c.loop-line.invariant.going (c.answer.ensures.told told.0) (c.answer.ensures.honest told.1) id s opens in
     let h = held_by s going.drained.txns in
-    going_halted (g.K.Sink.tells c.loop-line.sink) (g.K.Sink.tells c.answer.new.sink) s c.args.script _ _ c.loop-line.store c.in-Some.line _ _ _ _ (sides (g.T.FileTree.disk c.answer.new.tree) (g.D.Device.state c.answer.new.dev)) going c.in-Some.ensures.first c.answer.ensures.honest_sink
+    going_halted (g.K.Sink.tells c.loop-line.sink) (g.K.Sink.tells c.answer.new.sink) id s c.args.script _ _ c.loop-line.store c.in-Some.line _ _ _ _ (sides (g.T.FileTree.disk c.answer.new.tree) (g.D.Device.state c.answer.new.dev)) going c.in-Some.ensures.first c.answer.ensures.honest_sink
     c.in-Err.stop (c.in-Err.ensures.only told) opens.fresh (λ no. ap (g.K.Sink.out) (c.in-Err.ensures.silent no)) (λ is. c.in-Err.ensures.part told h going.drained.holds (ap Err is))
     (c.in-Err.ensures.left told h going.drained.holds) (λ is. c.in-Err.ensures.left_part told h going.drained.holds (ap Err is))
 
@@ -44,15 +44,15 @@ pub loop-line-preserved : goal.loop-line-preserved
 loop-line-preserved g c =
     let inv = c.loop-line.invariant in
     record {
-      going = λ tells told s opens.
-          let going = inv.going (c.answer.ensures.told tells) (c.answer.ensures.honest told) s opens in
+      going = λ tells told id s opens.
+          let going = inv.going (c.answer.ensures.told tells) (c.answer.ensures.honest told) id s opens in
           let h = held_by s going.drained.txns in
-          going_more (g.K.Sink.tells c.loop-line.sink) (g.K.Sink.tells c.answer.new.sink) s c.args.script _ _ c.loop-line.store c.in-Some.line _ _ _ _ (sides (g.T.FileTree.disk c.answer.new.tree) (g.D.Device.state c.answer.new.dev)) going c.in-Some.ensures.first c.answer.ensures.honest_sink
-          c.in-Ok.store (c.in-Ok.ensures.after (tells, told) h going.drained.holds) (c.in-Ok.ensures.written (tells, told) h going.drained.holds) (c.in-Ok.ensures.holds (tells, told) h going.drained.holds);
+          going_more (g.K.Sink.tells c.loop-line.sink) (g.K.Sink.tells c.answer.new.sink) id s c.args.script _ _ c.loop-line.store c.in-Some.line _ _ _ _ (sides (g.T.FileTree.disk c.answer.new.tree) (g.D.Device.state c.answer.new.dev)) going c.in-Some.ensures.first c.answer.ensures.honest_sink
+          c.in-Ok.store c.in-Ok.ensures.same.identity (c.in-Ok.ensures.after (tells, told) h going.drained.holds) (c.in-Ok.ensures.written (tells, told) h going.drained.holds) (c.in-Ok.ensures.holds (tells, told) h going.drained.holds);
       works = c.in-Ok.ensures.works;
       is_tree = c.in-Ok.ensures.tree;
       is_device = c.in-Ok.ensures.device;
-      same = record { set = c.in-Ok.ensures.same.set ∙ inv.same.set; fsid = c.in-Ok.ensures.same.fsid ∙ inv.same.fsid; size = c.in-Ok.ensures.same.size ∙ inv.same.size };
+      same = record { identity = c.in-Ok.ensures.same.identity ∙ inv.same.identity; size = c.in-Ok.ensures.same.size ∙ inv.same.size };
       later = omega (arith, inv.later, c.answer.ensures.later);
       tree_faults = omega (arith, inv.tree_faults, c.answer.ensures.tree_faults);
       faults = omega (arith, inv.faults, c.answer.ensures.faults);
@@ -63,4 +63,4 @@ loop-line-preserved g c =
     }
 
 pub returns-clause-ran : goal.returns-clause-ran
-returns-clause-ran g c = λ told s opens. has_run s c.args.script _ c.loop-line.store _ _ (c.loop-line.invariant.going told.0 told.1 s opens) c.in_default.ensures.none opens.fresh
+returns-clause-ran g c = λ told id s opens. has_run id s c.args.script _ c.loop-line.store _ _ (c.loop-line.invariant.going told.0 told.1 id s opens) c.in_default.ensures.none opens.fresh

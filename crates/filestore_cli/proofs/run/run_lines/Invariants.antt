@@ -1,4 +1,5 @@
 use Rattle.std.proofs.Common.{◌≡◌, ◌≤◌, length}
+use Rattle.store_files.specs.declared.reading.Identity.{Identity}
 use Rattle.fs_session.specs.Answers.{Session}
 use Rattle.file_store.specs.Store.{Works, IsItsTree, IsItsDevice}
 use Rattle.script_store.specs.Held.{IsSame}
@@ -9,8 +10,8 @@ use Rattle.filestore_cli.proofs.run.run_lines.Given as goal
 
 abbrev pub invariant-loop-line : goal.invariant-loop-line
 invariant-loop-line g l = record {
-  going : g.T.FileTree.tells l.tree → g.D.Device.tells l.dev → (s : Session) → Opens l.fn.store (sides (g.T.FileTree.disk l.fn.tree) (g.D.Device.state l.fn.dev)) s
-      → Going s l.fn.script l.script l.store (moves (g.K.Sink.tells l.sink) (g.K.Sink.out l.fn.sink) (g.K.Sink.out l.sink)) (sides (g.T.FileTree.disk l.tree) (g.D.Device.state l.dev));
+  going : g.T.FileTree.tells l.tree → g.D.Device.tells l.dev → (id : Identity) (s : Session) → Opens l.fn.store (sides (g.T.FileTree.disk l.fn.tree) (g.D.Device.state l.fn.dev)) id s
+      → Going id s l.fn.script l.script l.store (moves (g.K.Sink.tells l.sink) (g.K.Sink.out l.fn.sink) (g.K.Sink.out l.sink)) (sides (g.T.FileTree.disk l.tree) (g.D.Device.state l.dev));
   works : Works l.store.store;
   is_tree : IsItsTree l.store.store (g.T.FileTree.tells l.tree) (g.T.FileTree.disk l.tree);
   is_device : IsItsDevice l.store.store (g.D.Device.tells l.dev) (g.D.Device.state l.dev);
