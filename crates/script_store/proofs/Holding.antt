@@ -41,7 +41,7 @@ pub works_queued : (s s2 : Store) → s2 ≡ with_queue s s2.queue → Works s �
 works_queued s s2 is works = subst Works (sym is) works
 
 pub same_queued : (s s2 : Store) → s2 ≡ with_queue s s2.queue → IsSame s s2
-same_queued s s2 is = record { set = ap (λ (x : Store). x.set) is; fsid = ap (λ (x : Store). x.ring.head.fsid) is; size = ap (λ (x : Store). x.ring.head.size) is }
+same_queued s s2 is = record { identity = ap (λ (x : Store). x.identity) is; size = ap (λ (x : Store). x.ring.head.size) is }
 
 pub tree_queued : (s s2 : Store) (told : Type 0) (t : Files) → s2 ≡ with_queue s s2.queue → IsItsTree s told t → IsItsTree s2 told t
 tree_queued s s2 told t is its = subst (λ (x : Store). IsItsTree x told t) (sym is) its
@@ -76,7 +76,7 @@ drained_objects h s =
     at_more h (waiting_in s) ∙ sym (fold_flat O (waiting_in s)) ∙ sym (ap (fold_ops O) (flat_waiting s.queue.txns))
 
 module _ (h : History) (s s2 : Store) (opened : Option (List Op)) (drained : IsDrained s s2) where
-  session_with : Objects → Waiting → Numbers → Session
+  abbrev session_with : Objects → Waiting → Numbers → Session
   session_with objects queue numbers = record {
     objects = objects;
     waiting = queue.txns;

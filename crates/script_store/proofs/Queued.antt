@@ -46,10 +46,10 @@ same_outcome h s txn waits =
     (waits.colls_are ∙ sym (ap (colls_after (colls_of (at h (end_of h)))) (flat_waiting s.queue.txns)))
 
 module _ (h : History) (s : Store) (txn : Txn) where
-  answers_of : Outcome → List Answer
+  abbrev answers_of : Outcome → List Answer
   answers_of o = (queued_if o (session_of h s None) txn).answers
 
-  session_to : Outcome → Session
+  abbrev session_to : Outcome → Session
   session_to o = (queued_if o (session_of h s None) txn).session
 
   -- what is answered, by what the queue has room for
