@@ -2,4 +2,5 @@ mod Rows
 mod Going
 mod Sites
 mod Colls
+mod Stores
 mod Steps

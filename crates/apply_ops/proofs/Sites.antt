@@ -47,17 +47,17 @@ module _ (e f : Tree) (q : Path) (same : look f q ≡ look e q) where
   free_stays (inr file) = inr (same_kind false file)
 
 -- paths of `current`
-abbrev under : List ℕ → Path → Path
+abbrev pub under : List ℕ → Path → Path
 under step rest = codes "current" ∷ step ∷ rest
 
 second : (x y : List ℕ) (p q : Path) → under x p ≡ under y q → x ≡ y
 second x y p q same = cc
 
-shorter : (x y z : List ℕ) (rest : Path) → under x [] ≡ under y (z ∷ rest) → ⊥
+pub shorter : (x y z : List ℕ) (rest : Path) → under x [] ≡ under y (z ∷ rest) → ⊥
 shorter x y z rest same = cc
 
 module _ (c : Coll) (fits : CollFits c) where
-  never_within : (text : List ℕ) → IsOwn text → Within (dir_of c) (under text []) → ⊥
+  pub never_within : (text : List ℕ) → IsOwn text → Within (dir_of c) (under text []) → ⊥
   never_within text own is = never_own c fits text own (sym (second text (coll_text c) [] is.0 is.1))
 
   pub made_elsewhere : (e f : Tree) → KeepsClear e f → Elsewhere (Within (dir_of c)) e f → OwnStays e f

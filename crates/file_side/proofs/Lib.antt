@@ -1,5 +1,6 @@
 mod Fit
 mod Turns
+mod Joined
 mod Written
 mod Tidied
 mod Looked

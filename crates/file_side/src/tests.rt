@@ -2,18 +2,21 @@ use crate::Parts;
 use fs_names::{Mode, Settings};
 use index_fault::IndexFault;
 use std::alloc::Global;
+use store_files::Identity;
 use store_turns::Side;
 use tree_api::{FileTree, TreePath};
 use tree_memory::MemoryTree;
 use tree_trials::add_dir;
 
 const PARTS: Parts = Parts {
-    fsid: [7; 16],
-    set: Settings {
-        merge: 10,
-        split: 2,
-        lfn: 40,
-        mode: Mode::WriteAhead,
+    identity: Identity {
+        fsid: [7; 16],
+        settings: Settings {
+            merge: 10,
+            split: 2,
+            lfn: 40,
+            mode: Mode::WriteAhead,
+        },
     },
 };
 

@@ -1,9 +1,9 @@
 -- A tree that only was read.
-use Rattle.std.proofs.Common.{◌≡◌, ℕ, List, refl, sym, ◌∙◌, ap, subst, Some}
+use Rattle.std.proofs.Common.{◌≡◌, ℕ, List, sym, ◌∙◌, ap, subst, Some}
 use Rattle.fs_names.specs.declared.coll.Coll.{Coll}
 use Rattle.fs_names.specs.declared.settings.Settings.{Settings}
 use Rattle.tree_api.specs.Tree.{Tree, IsDir, IsFree}
-use Rattle.tree_api.specs.Disk.{Disk, Stays, Still}
+use Rattle.tree_api.specs.Disk.{Disk, Stays}
 use Rattle.lfn_index.specs.Directory.{lfn_name, entry}
 use Rattle.lfn_index.specs.Changes.{aside}
 use Rattle.replay_guard.specs.Guards.{guard_name}
@@ -12,11 +12,12 @@ use Rattle.op_effects.specs.Ready.{HasColls, Ready}
 use Rattle.apply_ops.specs.Next.{IsReady}
 use Rattle.dev_api.specs.Disk.{Disk as Bytes}
 use Rattle.ring_journal.specs.State.{State}
+use Rattle.store_files.specs.declared.reading.Identity.{Identity}
 use Rattle.store_history.specs.History.{History}
 use Rattle.store_turns.specs.declared.numbers.Numbers.{Numbers}
 use Rattle.store_turns.specs.declared.numbers.How.TheVariants.{Live}
 use Rattle.store_turns.specs.State.{Holding}
-use Rattle.tree_places.specs.Images.{Image, IsOwn, reads}
+use Rattle.tree_places.specs.Images.{StoreImage, IsOwn, reads}
 use Rattle.file_store.specs.Store.{Store}
 use Rattle.file_store.specs.Holds.{Holds}
 
@@ -48,12 +49,12 @@ module _ (old new : Disk) (stays : Stays old new) where
     own = subst IsOwn back r.own;
   }
 
-  pub holding_stays : (set : Settings) (fsid : List ℕ) (h : History) (core : Numbers) (s : State) (d : Bytes)
-      → Holding (Image set) (reads set) fsid h core old s d → Holding (Image set) (reads set) fsid h core new s d
-  holding_stays set fsid h core s d k = record {
+  pub holding_stays : (id : Identity) (fsid : List ℕ) (h : History) (core : Numbers) (s : State) (d : Bytes)
+      → Holding (StoreImage id) (reads id.settings) fsid h core old s d → Holding (StoreImage id) (reads id.settings) fsid h core new s d
+  holding_stays id fsid h core s d k = record {
     small = k.small;
     images = λ t may. k.images t (stays.image t may);
-    reads = subst (reads set Live h core.journalled) back k.reads;
+    reads = subst (reads id.settings Live h core.journalled) back k.reads;
     ring = k.ring;
   }
 
@@ -64,6 +65,6 @@ module _ (old new : Disk) (stays : Stays old new) where
     long = k.long;
     tail = k.tail;
     end = k.end;
-    on = holding_stays s.set s.ring.head.fsid k.long s.numbers s.ring d k.on;
+    on = holding_stays s.identity s.identity.fsid k.long s.numbers s.ring d k.on;
     waits = k.waits;
   }

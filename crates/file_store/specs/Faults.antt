@@ -1,5 +1,5 @@
 -- What the faults of the crates below are to a store.
-use Rattle.std.specs.Prelude.{◌≡◌, ℕ, length, Option, Some, None, Result, Ok, Err}
+use Rattle.std.specs.Prelude.{◌≡◌, ℕ, length, Some, Result, Ok, Err}
 use Rattle.index_fault.specs.declared.IndexFault.{IndexFault}
 use Rattle.index_fault.specs.declared.IndexFault.TheVariants as index
 use Rattle.store_turns.specs.declared.numbers.StoreFault.{StoreFault}
@@ -29,6 +29,12 @@ of_index index.Memory = reading.Memory
 of_index index.Tree = reading.Tree
 of_index (index.Damaged path) = reading.Damaged path
 
+-- what a sweep of the trash met
+abbrev pub of_sweep : IndexFault → TurnFault
+of_sweep index.Memory = turn.Memory
+of_sweep index.Tree = turn.Tree
+of_sweep (index.Damaged path) = turn.Damaged path
+
 abbrev pub of_queue : Unqueued → QueueFault
 of_queue (unqueued.Txn op why) = queue.Txn op why
 of_queue (unqueued.NotBuilt op) = queue.NotBuilt op
@@ -57,6 +63,19 @@ first_of turn.Memory = first.Memory
 abbrev pub BreaksAt : Store → Store → TurnFault → Type 0
 BreaksAt old new (turn.Broken f) = (old.first ≡ Some f) × (new ≡ old)
 BreaksAt old new fault = Works old × (new.first ≡ Some (first_of fault))
+
+-- the fault of a sweep
+abbrev pub IsSweeps : TurnFault → Type 0
+IsSweeps (turn.Broken f) = ⊥
+IsSweeps turn.Tree = Unit {0}
+IsSweeps turn.Device = ⊥
+IsSweeps (turn.Damaged path) = Unit {0}
+IsSweeps turn.Memory = Unit {0}
+
+-- A close answers `Broken` just where the store has a first fault.
+abbrev pub ClosesBroken : Store → TurnFault → Type 0
+ClosesBroken s (turn.Broken f) = s.first ≡ Some f
+ClosesBroken s fault = Works s
 
 -- What is answered to a transaction: `Broken` just where the store has a first fault, and else what the queue has room for. Want of memory
 -- is free.

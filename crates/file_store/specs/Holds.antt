@@ -1,8 +1,10 @@
 -- What a store holds: the objects that it was mounted with, and the transactions since.
-use Rattle.std.specs.Prelude.{◌≡◌, ℕ}
+use Rattle.std.specs.Prelude.{◌≡◌, ℕ, List, None}
 use Rattle.tree_api.specs.Tree.{Tree}
-use Rattle.tree_api.specs.Disk.{Disk as Files}
+use Rattle.tree_api.specs.Disk.{Disk as Files, Everywhere}
 use Rattle.dev_api.specs.Disk.{Disk}
+use Rattle.lfn_index.specs.Directory.{entry}
+use Rattle.op_effects.specs.Ready.{trash}
 use Rattle.store_history.specs.History.{History, end_of, at}
 use Rattle.store_history.specs.Journal.{EachImage}
 use Rattle.store_history.specs.Pair.{PairsStand, Closed}
@@ -41,6 +43,11 @@ pub record Holds (h : History) (s : Store) (t : Files) (d : Disk) : Type 0 where
 -- than this one.
 abbrev pub Leaves : History → ℕ → Store → Files → Disk → Type 0
 Leaves h acked s t d = PairsStand (StoreImage s.identity) s.identity.fsid h acked t.may d
+
+-- Nothing stands in the trash, and each image is what reads.
+pub record IsSwept (t : Files) : Type 0 where
+  pub empty : (step : List ℕ) → t.tree.at (entry trash step) ≡ None
+  pub settled : Everywhere t (λ u. u ≡ t.tree)
 
 -- Each of them is a closed store of the history's objects: nothing is left to replay.
 abbrev pub LeavesClosed : History → Store → Files → Disk → Type 0

@@ -1,6 +1,6 @@
 //! Why a call gives up.
 ghost use Rattle.std.specs.Prelude.{◌≡◌};
-ghost use Rattle.file_store.specs.Faults.{first_of, of_index, of_queue, of_turn};
+ghost use Rattle.file_store.specs.Faults.{first_of, of_index, of_queue, of_sweep, of_turn};
 
 use fs_model::Why;
 use index_fault::IndexFault;
@@ -110,6 +110,18 @@ impl From<StoreFault> for TurnFault {
             StoreFault::Tree => TurnFault::Tree,
             StoreFault::Device => TurnFault::Device,
             StoreFault::Memory => TurnFault::Memory,
+        }
+    }
+}
+
+impl From<IndexFault> for TurnFault {
+    ghost from_gives = { λ error fault. fault ≡ of_sweep error };
+
+    fn from(error: IndexFault) -> TurnFault {
+        match error {
+            IndexFault::Memory => TurnFault::Memory,
+            IndexFault::Tree => TurnFault::Tree,
+            IndexFault::Damaged { path } => TurnFault::Damaged { path },
         }
     }
 }

@@ -3,6 +3,7 @@
 //! `Store.antt` has what contracts see of a store, `Holds.antt` what it holds and what a crash leaves of it.
 #![tactic(auto)]
 
+mod closing;
 mod fault;
 mod reading;
 mod store;

@@ -1,6 +1,6 @@
 -- What waits is due behind a history that gets it.
-use Rattle.std.proofs.Common.{◌≡◌, ℕ, zero, suc, ◌+◌, ◌-◌, ◌<◌, ◌≤◌, get_or, List, [], ◌∷◌, ◌++◌, drop, length, map, refl, sym, ◌∙◌, ap, subst, arith, length-append, Ok}
-use Rattle.std.proofs.lemmas.List.{get_or-append-add, get_or-drop, length-map}
+use Rattle.std.proofs.Common.{◌≡◌, ℕ, zero, suc, ◌+◌, ◌-◌, ◌<◌, get_or, List, [], ◌∷◌, ◌++◌, drop, length, map, ◌∙◌, ap, arith, length-append, Ok}
+use Rattle.std.proofs.lemmas.List.{get_or-append-add, length-map}
 use Rattle.fs_model.specs.declared.op.Op.{Op}
 use Rattle.txn_codec.specs.Reading.{decoded}
 use Rattle.store_history.specs.History.{History, end_of, IsTxn}

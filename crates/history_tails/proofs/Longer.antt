@@ -1,5 +1,5 @@
 -- What both sides hold of a history they hold of a longer one.
-use Rattle.std.proofs.Common.{◌≡◌, ℕ, zero, suc, ◌+◌, ◌-◌, ◌<◌, ◌≤◌, ◌^◌, List, [], ◌∷◌, ◌++◌, take, drop, length, map, refl, sym, ◌∙◌, ap, subst, arith, append-nil, append_assoc, length-append, length-drop}
+use Rattle.std.proofs.Common.{◌≡◌, ℕ, zero, suc, ◌+◌, ◌-◌, ◌<◌, ◌≤◌, ◌^◌, List, [], ◌∷◌, take, drop, length, refl, sym, ◌∙◌, ap, subst, arith, append-nil, append_assoc, length-append, length-drop}
 use Rattle.std.proofs.lemmas.List.{take-append-le, drop-append-le}
 use Rattle.fs_model.specs.declared.op.Op.{Op}
 use Rattle.fs_model.specs.Objects.{Objects}
@@ -17,12 +17,10 @@ use Rattle.store_history.specs.Journal.{Spells, RingSide}
 use Rattle.store_turns.specs.declared.numbers.Numbers.{Numbers}
 use Rattle.store_turns.specs.declared.numbers.Queued.{Queued}
 use Rattle.store_turns.specs.State.{Holding}
-use Rattle.store_turns.specs.Waiting.{IsAt, AllMeet}
+use Rattle.store_turns.specs.Waiting.{AllMeet}
 use Rattle.tree_places.specs.Line.{with_txn}
 use Rattle.tree_places.specs.Images.{StoreImage, reads}
-use Rattle.tree_places.specs.Laws.{TheoryLaw}
 use Rattle.tree_places.proofs.Theory.{theory_law}
-use Rattle.tree_places.proofs.Operations.{history_law}
 use Rattle.history_tails.specs.Tails.{with_more}
 use Rattle.history_tails.proofs.Tails.{at_more}
 use Rattle.history_tails.proofs.Due.{waiting_ops}

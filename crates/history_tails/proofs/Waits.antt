@@ -1,5 +1,5 @@
 -- Transactions that wait behind a history.
-use Rattle.std.proofs.Common.{◌≡◌, ◌==◌, if◌then◌else◌, ℕ, ◌+◌, Bool, true, false, not, ◌&&◌, ◌||◌, cond, List, [], ◌∷◌, ◌++◌, length, take, slice_get, Option, Some, None, refl, sym, ◌∙◌, ap, subst, arith, append-nil, zero-add}
+use Rattle.std.proofs.Common.{◌≡◌, ◌==◌, if◌then◌else◌, ℕ, ◌+◌, Bool, true, false, not, ◌&&◌, ◌||◌, List, [], ◌∷◌, ◌++◌, take, slice_get, Option, Some, None, refl, sym, ◌∙◌, ap, subst, append-nil, zero-add}
 use Rattle.std.specs.List.{list_all, list_any}
 use Rattle.std.specs.Option.{option_or, option_map, option_and_then}
 use Rattle.std.specs.FinMap as fin
@@ -14,13 +14,12 @@ use Rattle.fs_model.specs.Named.{needed}
 use Rattle.fs_model.specs.Objects.{Objects}
 use Rattle.fs_model.specs.Colls.{CollSet, colls_of}
 use Rattle.fs_model.specs.Rows.{row, fold_ops, fold_txns}
-use Rattle.fs_model.specs.Check.{op_colls, colls_after, is_missing, lacks, remakes, same_object, too_big, refusal, refusal_at, refusal_from, fault_at, IsAccepted}
+use Rattle.fs_model.specs.Check.{op_colls, colls_after, lacks, remakes, same_object, too_big, refusal_at, refusal_from, fault_at, IsAccepted}
 use Rattle.fs_model.proofs.Colls.{contains-colls_of, row-colls, fold-colls}
 use Rattle.fs_model.proofs.Refusals.{no_refusal, faults_from}
 use Rattle.fs_cells.specs.Laws.{IsAllowed, AreAllowed}
 use Rattle.fs_cells.specs.Standing.{AllAllowed}
 use Rattle.store_history.specs.History.{History, end_of, at}
-use Rattle.store_history.proofs.Parts.{fold_append}
 use Rattle.tree_places.specs.Line.{ops_of}
 use Rattle.tree_places.proofs.Flat.{ops_append, fold_flat}
 use Rattle.history_tails.specs.Tails.{begun, with_more, WaitBehind}

@@ -1,6 +1,7 @@
 mod Depths
 mod Looked
 mod Objects
+mod Swept
 mod Thinning
 mod Tidied
 mod Walks

@@ -4,10 +4,15 @@ use Rattle.tree_api.specs.Tree.{Path, Names}
 use Rattle.tree_api.specs.Disk.{Disk, Leaves}
 use Rattle.tree_api.specs.Renaming.{Renamed, NoNode}
 use Rattle.lfn_index.specs.Directory.{entry}
+use Rattle.coll_ops.specs.Places.{Within}
 
 -- it stands directly in the directory
 abbrev pub IsIn : Path → Path → Type 0
 IsIn dir q = (step : List ℕ) × (q ≡ entry dir step)
+
+-- or at whatever depth
+abbrev pub IsBelow : Path → Path → Type 0
+IsBelow dir q = (step : List ℕ) × Within (entry dir step) q
 
 -- of the names in it some are gone, and all others stay
 abbrev pub Thinned : Path → Names → Names → Type 0

@@ -4,10 +4,10 @@ ghost use Rattle.fs_names.specs.declared.settings.Settings.{Settings};
 ghost use Rattle.tree_api.specs.Tree.{Path, IsDir};
 ghost use Rattle.tree_api.specs.Disk.{Leaves};
 ghost use Rattle.lfn_index.specs.Directory.{entry};
-ghost use Rattle.op_effects.specs.Clear.{DirBelow};
+ghost use Rattle.op_effects.specs.Clear.{DirBelow, KeepsFree};
 ghost use Rattle.op_effects.specs.Ready.{Ready, trash};
 ghost use Rattle.coll_ops.specs.Changes.{AllStay, Elsewhere, Sweeps, Faults};
-ghost use Rattle.coll_ops.specs.Places.{Within};
+ghost use Rattle.store_walk.specs.Thinned.{IsBelow};
 
 use crate::places::trash_dir;
 use coll_ops::sweep;
@@ -38,6 +38,7 @@ fn sweep_each<T: FileTree>(tree: &mut T, dir: &TreePath) -> Result<(), IndexFaul
     ensures told { T.tells tree.new → T.tells tree.old }
     ensures counts { Faults (IsErrOf result IndexFault.Tree) (T.disk tree.old) (T.disk tree.new) }
     ensures sweeps { T.tells tree.new → Sweeps dir.now (T.disk tree.old) (T.disk tree.new) }
+    ensures elsewhere { T.tells tree.new → Leaves (Elsewhere (IsBelow dir.now)) (T.disk tree.old) (T.disk tree.new) }
     ensures empty { T.tells tree.new → OnOk result ((step : List ℕ) → (T.disk tree.new).tree.at (entry dir.now step) ≡ None) }
     ensures damaged { T.tells tree.new → (q : Path) → IsErrOf result (IndexFault.Damaged q) → DirBelow 10 dir.now (T.disk tree.old).tree q }
 {
@@ -56,7 +57,8 @@ pub fn sweep_trash<T: FileTree>(alloc: Global, tree: &mut T) -> Result<(), Index
     ensures told { T.tells tree.new → T.tells tree.old }
     ensures counts { Faults (IsErrOf result IndexFault.Tree) (T.disk tree.old) (T.disk tree.new) }
     ensures leaves { T.tells tree.new → (set : Settings) → Leaves (AllStay set) (T.disk tree.old) (T.disk tree.new) }
-    ensures elsewhere { T.tells tree.new → Leaves (Elsewhere (Within trash)) (T.disk tree.old) (T.disk tree.new) }
+    ensures elsewhere { T.tells tree.new → Leaves (Elsewhere (IsBelow trash)) (T.disk tree.old) (T.disk tree.new) }
+    ensures free { T.tells tree.new → Leaves KeepsFree (T.disk tree.old) (T.disk tree.new) }
     ensures ready { T.tells tree.new → (set : Settings) → Ready set (T.disk tree.old) → Ready set (T.disk tree.new) }
     ensures empty { T.tells tree.new → OnOk result ((step : List ℕ) → (T.disk tree.new).tree.at (entry trash step) ≡ None) }
     ensures damaged { T.tells tree.new → (q : Path) → IsErrOf result (IndexFault.Damaged q) → DirBelow 10 trash (T.disk tree.old).tree q }

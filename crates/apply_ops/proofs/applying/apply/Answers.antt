@@ -4,6 +4,7 @@ use Rattle.tree_places.proofs.Own.{own_law}
 use Rattle.apply_ops.proofs.Rows.{edits_of}
 use Rattle.apply_ops.proofs.Going.{guard_there, then_ok}
 use Rattle.apply_ops.proofs.Sites.{current_there, made_elsewhere, dropped_elsewhere, never_file, never_blocked}
+use Rattle.apply_ops.proofs.Stores.{made_store, dropped_store}
 use Rattle.apply_ops.proofs.Colls.{make_keeps, make_done, drop_keeps, drop_done}
 use Rattle.apply_ops.proofs.applying.apply.Goals as goal
 
@@ -76,3 +77,15 @@ pub returns-in_err-_grew-in-RmColl-clause-undamaged : goal.returns-in_err-_grew-
 returns-in_err-_grew-in-RmColl-clause-undamaged g c = λ tells p e.
     let was = c.requires.ready (c.drop_coll.ensures.told tells) in
     never_blocked (g.T.FileTree.disk c.args.tree.now).tree was.own.clear c.in-RmColl.c c.fits-in-RmColl.ensures c.args.pos p (c.drop_coll.ensures.damaged tells p (search (rules, e)))
+
+pub returns-in-MkColl-clause-stores : goal.returns-in-MkColl-clause-stores
+returns-in-MkColl-clause-stores g c = λ tells.
+    made_store c.in-MkColl.c c.fits.ensures (g.T.FileTree.disk c.args.tree.now) (g.T.FileTree.disk c.make_coll.new.tree) (c.make_coll.ensures.off tells)
+
+pub returns-in_err-_grew-in-RmColl-clause-stores : goal.returns-in_err-_grew-in-RmColl-clause-stores
+returns-in_err-_grew-in-RmColl-clause-stores g c = λ tells.
+    dropped_store c.in-RmColl.c c.fits-in-RmColl.ensures c.args.pos (g.T.FileTree.disk c.args.tree.now) (g.T.FileTree.disk c.drop_coll.new.tree) (c.drop_coll.ensures.off tells)
+
+pub returns-in_ok-_grew-in-RmColl-clause-stores : goal.returns-in_ok-_grew-in-RmColl-clause-stores
+returns-in_ok-_grew-in-RmColl-clause-stores g c = λ tells.
+    dropped_store c.in-RmColl.c c.fits-in-RmColl.ensures c.args.pos (g.T.FileTree.disk c.args.tree.now) (g.T.FileTree.disk c.drop_coll.new.tree) (c.drop_coll.ensures.off tells)

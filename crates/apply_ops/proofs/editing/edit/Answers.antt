@@ -9,6 +9,7 @@ use Rattle.object_ops.proofs.Standing.{ready_stays}
 use Rattle.apply_ops.proofs.Rows.{named_coll}
 use Rattle.apply_ops.proofs.Going.{then_ok, left_out, edit_keeps, edit_done, all_stays, all_edited}
 use Rattle.apply_ops.proofs.Sites.{never_file}
+use Rattle.apply_ops.proofs.Stores.{same_store, edited_store}
 use Rattle.apply_ops.proofs.editing.edit.Goals as goal
 
 -- what stood at the collection's path stands there still
@@ -84,3 +85,20 @@ returns-in_err-is_there-clause-undamaged g c = λ tells p e.
     let way = c.is_there.ensures.damaged tells p (search (rules, e)) in
     never_file t was.own.clear n.coll (c.name_fits.ensures n is).coll p
     (subst (λ (d : Coll). (p ≡ dir_of d) × IsFile t p) (named_coll c.args.op.now n is c.colls-coll.result c.colls-coll.ensures) way)
+
+pub returns-in_err-is_there-clause-stores : goal.returns-in_err-is_there-clause-stores
+returns-in_err-is_there-clause-stores g c = λ tells.
+    same_store (g.T.FileTree.disk c.args.tree.now) (g.T.FileTree.disk c.is_there.new.tree) (g.met.T.FileTree.sound c.args.tree.now (c.is_there.ensures.told tells)) (c.is_there.ensures.still tells).stays
+
+pub returns-then-not-branch-clause-stores : goal.returns-then-not-branch-clause-stores
+returns-then-not-branch-clause-stores g c = λ tells.
+    same_store (g.T.FileTree.disk c.args.tree.now) (g.T.FileTree.disk c.is_there.new.tree) (g.met.T.FileTree.sound c.args.tree.now (c.is_there.ensures.told tells)) (c.is_there.ensures.still tells).stays
+
+pub returns-clause-stores : goal.returns-clause-stores
+returns-clause-stores g c = λ tells.
+    let n = c.requires.edits.0 in
+    let is = c.requires.edits.1 in
+    let told = c.edit_object.ensures.told tells in
+    let sound = g.met.T.FileTree.sound in
+    edited_store n.coll (g.T.FileTree.disk c.args.tree.now) (g.T.FileTree.disk c.is_there.new.tree) (g.T.FileTree.disk c.edit_object.new.tree)
+    (sound c.args.tree.now (c.is_there.ensures.told told)) (sound c.is_there.new.tree told) (c.is_there.ensures.still told).stays (c.edit_object.ensures.off tells n is)

@@ -2,6 +2,7 @@
 use Rattle.std.proofs.Common.{ℕ, subst, refl, ◌∙◌, arith}
 use Rattle.tree_places.specs.Underway.{Underway}
 use Rattle.tree_places.proofs.Underway.{begins, ends}
+use Rattle.apply_ops.proofs.Stores.{none_done, then_stays}
 use Rattle.apply_ops.proofs.Steps.{item_at, spot, is_next, since_entry, goes_on}
 use Rattle.apply_ops.proofs.transaction.apply_all.Goals as goal
 
@@ -11,6 +12,7 @@ loop-i-init g c = record {
   faults = omega arith;
   syncs = refl;
   ready = c.requires.ready;
+  stores = λ tells. none_done (g.T.FileTree.disk c.args.tree.now) (g.met.T.FileTree.sound c.args.tree.now tells);
   under = λ tells how h n lo hi turn images past. begins c.args.set.now how h n lo hi c.args.seq c.args.ops.now turn (g.T.FileTree.disk c.args.tree.now) (g.met.T.FileTree.sound c.args.tree.now tells) images past;
 }
 
@@ -30,6 +32,11 @@ returns-in_err-apply-clause-keeps g c = λ tells how h n lo hi turn images past.
     since_entry c.args.set.now how h n lo hi c.args.seq c.args.ops.now turn c.loop-i.i c.index-ops-i.result (item_at c.args.ops.now c.loop-i.i c.index-ops-i.result c.loop-i-test.true c.index-ops-i.is) d0 d1 sound now (g.T.FileTree.disk c.apply.new.tree)
     (c.apply.ensures.keeps tells (spot c.args.set.now how h n lo hi c.args.seq c.args.ops.now turn c.loop-i.i c.index-ops-i.result (item_at c.args.ops.now c.loop-i.i c.index-ops-i.result c.loop-i-test.true c.index-ops-i.is) d0 d1 sound now) (is_next c.args.set.now how h n lo hi c.args.seq c.args.ops.now turn c.loop-i.i c.index-ops-i.result (item_at c.args.ops.now c.loop-i.i c.index-ops-i.result c.loop-i-test.true c.index-ops-i.is) d0 d1 sound now))
 
+pub returns-in_err-apply-clause-stores : goal.returns-in_err-apply-clause-stores
+returns-in_err-apply-clause-stores g c = λ tells.
+    let mid = c.apply.ensures.told tells in
+    then_stays (g.T.FileTree.disk c.args.tree.now) (g.T.FileTree.disk c.loop-i.tree) (g.T.FileTree.disk c.apply.new.tree) (g.met.T.FileTree.sound c.loop-i.tree mid) (c.loop-i.invariant.stores mid) (c.apply.ensures.stores tells)
+
 pub returns-clause-keeps : goal.returns-clause-keeps
 returns-clause-keeps g c = λ tells how h n lo hi turn images past. (c.loop-i.invariant.under tells how h n lo hi turn images past).keeps
 
@@ -47,6 +54,9 @@ loop-i-preserved g c = record {
   faults = omega (arith, c.loop-i.invariant.faults, c.apply.ensures.faults);
   syncs = c.apply.ensures.syncs ∙ c.loop-i.invariant.syncs;
   ready = λ tells. c.in_ok-apply.ensures.ready tells;
+  stores = λ tells.
+      let mid = c.apply.ensures.told tells in
+      then_stays (g.T.FileTree.disk c.args.tree.now) (g.T.FileTree.disk c.loop-i.tree) (g.T.FileTree.disk c.apply.new.tree) (g.met.T.FileTree.sound c.loop-i.tree mid) (c.loop-i.invariant.stores mid) (c.apply.ensures.stores tells);
   under = λ tells how h n lo hi turn images past.
       let mid = c.apply.ensures.told tells in
       let now = c.loop-i.invariant.under mid how h n lo hi turn images past in

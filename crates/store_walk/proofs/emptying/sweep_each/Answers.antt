@@ -5,6 +5,7 @@ use Rattle.coll_ops.proofs.Clearing.{cleared_more, cleared_all, faults_then, swe
 use Rattle.coll_ops.proofs.Depth.{deeper}
 use Rattle.coll_ops.proofs.Paths.{within_below}
 use Rattle.store_walk.proofs.Looked.{item_entry}
+use Rattle.store_walk.proofs.Swept.{rest_then}
 use Rattle.store_walk.proofs.emptying.sweep_each.Goals as goal
 
 pub sweep_at-requires : goal.sweep_at-requires
@@ -20,6 +21,16 @@ returns-in_err-sweep_at-clause-sweeps g c = λ now.
     let told = c.sweep_at.ensures.told now in
     sweeps_then c.args.dir.now (c.args.dir.now ++ c.entry-item.result.step) (disk c.args.tree.now) (disk c.loop-entry.tree) (disk c.sweep_at.new.tree) (g.met.T.FileTree.sound c.loop-entry.tree told)
     (λ q w. within_below c.args.dir.now c.entry-item.result.step q w) (c.loop-entry.invariant.sweeps told) (c.sweep_at.ensures.sweeps now)
+
+pub returns-in_err-sweep_at-clause-elsewhere : goal.returns-in_err-sweep_at-clause-elsewhere
+returns-in_err-sweep_at-clause-elsewhere g c = λ now.
+    let disk = g.T.FileTree.disk in
+    let loop = c.loop-entry.invariant in
+    let told = c.sweep_at.ensures.told now in
+    let e = c.entry-item.result in
+    let was = item_entry (disk c.args.tree.now).tree c.args.dir.now c.deref-entry-items.result.now (loop.listing told) c.loop-entry.entry-index c.loop-entry-test.true e c.entry-item.is in
+    rest_then c.args.dir.now e.step (disk c.args.tree.now) (disk c.loop-entry.tree) (disk c.sweep_at.new.tree) (g.met.T.FileTree.sound c.loop-entry.tree told) was.1
+    (loop.elsewhere told) (c.sweep_at.ensures.sweeps now)
 
 pub returns-in_err-sweep_at-clause-damaged : goal.returns-in_err-sweep_at-clause-damaged
 returns-in_err-sweep_at-clause-damaged g c = λ now q is.
@@ -42,6 +53,12 @@ loop-entry-preserved g c =
           let told = c.sweep_at.ensures.told now in
           sweeps_then c.args.dir.now (c.args.dir.now ++ c.entry-item.result.step) (disk c.args.tree.now) (disk c.loop-entry.tree) (disk c.sweep_at.new.tree) (g.met.T.FileTree.sound c.loop-entry.tree told)
           (λ q w. within_below c.args.dir.now c.entry-item.result.step q w) (loop.sweeps told) (c.sweep_at.ensures.sweeps now);
+      elsewhere = λ now.
+          let told = c.sweep_at.ensures.told now in
+          let e = c.entry-item.result in
+          let was = item_entry (disk c.args.tree.now).tree c.args.dir.now c.deref-entry-items.result.now (loop.listing told) c.loop-entry.entry-index c.loop-entry-test.true e c.entry-item.is in
+          rest_then c.args.dir.now e.step (disk c.args.tree.now) (disk c.loop-entry.tree) (disk c.sweep_at.new.tree) (g.met.T.FileTree.sound c.loop-entry.tree told) was.1
+          (loop.elsewhere told) (c.sweep_at.ensures.sweeps now);
       cleared = λ now.
           let told = c.sweep_at.ensures.told now in
           cleared_more (disk c.args.tree.now) (disk c.loop-entry.tree) c.args.dir.now c.deref-entry-items.result.now (loop.listing told) c.loop-entry.entry-index c.loop-entry-test.true c.entry-item.result c.entry-item.is

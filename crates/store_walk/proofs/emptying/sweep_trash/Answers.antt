@@ -1,9 +1,13 @@
 use Rattle.std.proofs.Common.{rules, ◌≡◌, OnOk, ℕ, List, None, subst}
 use Rattle.tree_api.specs.Tree.{Path}
+use Rattle.tree_api.specs.Disk.{Leaves}
 use Rattle.lfn_index.specs.Directory.{entry}
 use Rattle.op_effects.specs.Clear.{DirBelow}
-use Rattle.coll_ops.specs.Changes.{Sweeps}
-use Rattle.coll_ops.proofs.Trash.{swept_stay, swept_elsewhere, swept_ready}
+use Rattle.op_effects.specs.Ready.{trash}
+use Rattle.coll_ops.specs.Changes.{Elsewhere, Sweeps}
+use Rattle.coll_ops.proofs.Trash.{swept_stay, swept_ready}
+use Rattle.store_walk.specs.Thinned.{IsBelow}
+use Rattle.store_walk.proofs.Swept.{swept_free}
 use Rattle.store_walk.proofs.emptying.sweep_trash.Goals as goal
 
 pub returns-clause-leaves : goal.returns-clause-leaves
@@ -15,7 +19,12 @@ returns-clause-leaves g c = λ t.
 pub returns-clause-elsewhere : goal.returns-clause-elsewhere
 returns-clause-elsewhere g c = λ t.
     let disk = g.T.FileTree.disk in
-    swept_elsewhere (disk c.args.tree.now) (disk c.sweep_each.new.tree) (g.met.T.FileTree.sound c.args.tree.now (search rules))
+    subst (λ (p : Path). Leaves (Elsewhere (IsBelow p)) (disk c.args.tree.now) (disk c.sweep_each.new.tree)) c.in_ok-dir.ensures (c.sweep_each.ensures.elsewhere (search rules))
+
+pub returns-clause-free : goal.returns-clause-free
+returns-clause-free g c = λ t.
+    let disk = g.T.FileTree.disk in
+    swept_free trash (disk c.args.tree.now) (disk c.sweep_each.new.tree) (g.met.T.FileTree.sound c.args.tree.now (search rules))
     (subst (λ (p : Path). Sweeps p (disk c.args.tree.now) (disk c.sweep_each.new.tree)) c.in_ok-dir.ensures (c.sweep_each.ensures.sweeps (search rules)))
 
 pub returns-clause-ready : goal.returns-clause-ready

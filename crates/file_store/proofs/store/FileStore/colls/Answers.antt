@@ -1,6 +1,5 @@
-use Rattle.std.proofs.Common.{◌≡◌, sym, ◌∙◌, ap, subst, rules}
+use Rattle.std.proofs.Common.{sym, ◌∙◌, subst, rules}
 use Rattle.fs_names.specs.declared.settings.Settings.{Settings}
-use Rattle.fs_model.specs.Objects.{Objects}
 use Rattle.store_history.specs.History.{at, end_of}
 use Rattle.tree_shows.specs.Shows.{Shows}
 use Rattle.apply_ops.specs.Next.{IsReady}
@@ -17,11 +16,11 @@ returns-clause-reads g c = λ tells h r.
 
 pub returns-clause-tree : goal.returns-clause-tree
 returns-clause-tree g c = λ tells works.
-    is_ready_stays (g.T.FileTree.disk c.args.tree.now) (g.T.FileTree.disk c.colls.new.tree) (c.colls.ensures.still (search rules)).stays c.args.self.now.set (c.requires.tree (search rules) works)
+    is_ready_stays (g.T.FileTree.disk c.args.tree.now) (g.T.FileTree.disk c.colls.new.tree) (c.colls.ensures.still (search rules)).stays c.args.self.now.identity.settings (c.requires.tree (search rules) works)
 
 pub returns-in-Err-clause-tree : goal.returns-in-Err-clause-tree
 returns-in-Err-clause-tree g c = λ tells works.
-    is_ready_stays (g.T.FileTree.disk c.args.tree.now) (g.T.FileTree.disk c.colls.new.tree) (c.colls.ensures.still (search rules)).stays c.args.self.now.set (c.requires.tree (search rules) works)
+    is_ready_stays (g.T.FileTree.disk c.args.tree.now) (g.T.FileTree.disk c.colls.new.tree) (c.colls.ensures.still (search rules)).stays c.args.self.now.identity.settings (c.requires.tree (search rules) works)
 
 pub returns-in-Err-clause-undamaged : goal.returns-in-Err-clause-undamaged
 returns-in-Err-clause-undamaged g c = λ tells works p is.
@@ -32,5 +31,5 @@ returns-in-Err-clause-undamaged g c = λ tells works p is.
 pub colls-requires : goal.colls-requires
 colls-requires g c = record {
   current = λ told.
-      current_there c.args.self.now.set (g.T.FileTree.disk c.args.tree.now) (g.met.T.FileTree.sound c.args.tree.now told) (c.requires.tree told (search rules));
+      current_there c.args.self.now.identity.settings (g.T.FileTree.disk c.args.tree.now) (g.met.T.FileTree.sound c.args.tree.now told) (c.requires.tree told (search rules));
 }
