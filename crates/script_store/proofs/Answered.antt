@@ -1,8 +1,7 @@
 -- What the result of a statement tells, by its kind.
-use Rattle.std.proofs.Common.{◌≡◌, ℕ, true, List, [], ◌∷◌, refl, sym, ◌∙◌, ap, subst}
-use Rattle.std.specs.Prelude.{◌≢◌, Result, Ok, Err, IfOk, IfErr}
+use Rattle.std.proofs.Common.{◌≡◌, true, [], ◌∷◌, sym, ◌∙◌, ap, subst}
+use Rattle.std.specs.Prelude.{Result, Ok, Err, IfOk, IfErr}
 use Rattle.std.specs.Option.{option_to_list}
-use Rattle.tree_api.specs.Tree.{Path}
 use Rattle.tree_api.specs.Disk.{Disk as Files, Still}
 use Rattle.dev_api.specs.DeviceState.{DeviceState}
 use Rattle.store_history.specs.History.{History}
@@ -10,7 +9,7 @@ use Rattle.fs_script.specs.declared.answer.Answer.TheVariants as answers
 use Rattle.fs_script.specs.declared.statement.Statement.{Statement}
 use Rattle.fs_script.specs.declared.statement.Statement.TheVariants.{Drain}
 use Rattle.fs_session.specs.Answers.{step}
-use Rattle.file_store.specs.Store.{Store, Works, IsItsTree, IsItsDevice, IsDrained}
+use Rattle.file_store.specs.Store.{Works, IsItsTree, IsItsDevice, IsDrained}
 use Rattle.file_store.specs.Holds.{Holds, Waits, with_waiting}
 use Rattle.script_store.specs.declared.fault.StepFault.{StepFault}
 use Rattle.script_store.specs.declared.fault.StepFault.TheVariants as stepping

@@ -1,11 +1,10 @@
 -- Histories that go on, and what a crash leaves of a store.
-use Rattle.std.proofs.Common.{◌≡◌, ℕ, ◌+◌, ◌-◌, ◌≤◌, ◌<◌, List, [], ◌++◌, length, take, refl, sym, ◌∙◌, ap, subst, arith, append-nil, length-append}
+use Rattle.std.proofs.Common.{◌≡◌, ℕ, ◌-◌, ◌≤◌, List, [], length, refl, sym, ap, subst, arith, append-nil, length-append}
 use Rattle.std.specs.Prelude.{Result, Ok, Err, OnErr}
 use Rattle.std.proofs.lemmas.List.{take-append-le}
 use Rattle.fs_model.specs.declared.op.Op.{Op}
 use Rattle.fs_model.specs.Objects.{Objects}
 use Rattle.fs_model.specs.Rows.{fold_txns}
-use Rattle.tree_api.specs.Tree.{Tree}
 use Rattle.tree_api.specs.Disk.{Disk as Files}
 use Rattle.dev_api.specs.Disk.{Disk}
 use Rattle.ring_journal.specs.State.{State}

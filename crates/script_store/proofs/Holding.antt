@@ -1,11 +1,10 @@
 -- What a store holds, after statements.
-use Rattle.std.proofs.Common.{◌≡◌, ℕ, true, false, List, [], ◌∷◌, ◌++◌, refl, sym, ◌∙◌, ap, subst}
-use Rattle.std.specs.Prelude.{Option, map}
+use Rattle.std.proofs.Common.{◌≡◌, true, false, List, [], refl, sym, ◌∙◌, ap, subst}
+use Rattle.std.specs.Prelude.{Option}
 use Rattle.std.specs.List.{flat_map}
 use Rattle.fs_model.specs.declared.op.Op.{Op}
-use Rattle.fs_model.specs.declared.op.Txn.{Txn}
 use Rattle.fs_model.specs.Objects.{Objects}
-use Rattle.fs_model.specs.Rows.{fold_ops, fold_txns}
+use Rattle.fs_model.specs.Rows.{fold_ops}
 use Rattle.tree_api.specs.Disk.{Disk as Files}
 use Rattle.dev_api.specs.Disk.{Disk}
 use Rattle.dev_api.specs.DeviceState.{DeviceState}
@@ -13,15 +12,14 @@ use Rattle.store_history.specs.History.{History, end_of, at}
 use Rattle.store_turns.specs.declared.numbers.Numbers.{Numbers}
 use Rattle.store_queue.specs.Waiting.{Waiting}
 use Rattle.history_tails.proofs.Tails.{at_more}
-use Rattle.tree_places.specs.Line.{ops_of as flat}
 use Rattle.tree_places.proofs.Flat.{fold_flat}
 use Rattle.fs_script.specs.declared.statement.Statement.{Statement}
 use Rattle.fs_script.specs.declared.statement.Statement.TheVariants.{Drain, Read, Stat, Attrs, Omap, List as ListIn, Colls}
-use Rattle.fs_session.specs.Answers.{Session, step, after_drain, waiting_ops}
+use Rattle.fs_session.specs.Answers.{Session, step, after_drain}
 use Rattle.file_store.specs.Store.{Store, Works, IsItsTree, IsItsDevice, IsDrained, waiting_in}
 use Rattle.file_store.specs.Holds.{Holds, Waits, with_waiting}
 use Rattle.script_store.specs.declared.store.ScriptStore.{ScriptStore}
-use Rattle.script_store.specs.Script.{session_of, session_on, ops_of, is_reading, drained_in}
+use Rattle.script_store.specs.Script.{session_of, session_on, is_reading}
 use Rattle.script_store.specs.Held.{with_queue, more, with_drained, IsSame}
 use Rattle.script_store.proofs.Histories.{more_none, none_drained}
 use Rattle.script_store.proofs.Queued.{flat_waiting}

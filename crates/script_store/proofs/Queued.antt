@@ -1,6 +1,6 @@
 -- What a queue tells, in the words of sessions.
 use Rattle.std.proofs.Common.{◌≡◌, ℕ, List, [], ◌∷◌, ◌++◌, length, refl, sym, ◌∙◌, ap, subst}
-use Rattle.std.specs.Prelude.{Option, None, Some, Result, Ok, Err, IfOk, OnOk, OnErr, ◌≢◌}
+use Rattle.std.specs.Prelude.{None, Some, Result, Ok, Err, IfOk, OnOk, OnErr, ◌≢◌}
 use Rattle.fs_model.specs.declared.op.Txn.{Txn}
 use Rattle.std.specs.List.{flat_map}
 use Rattle.fs_model.specs.declared.op.Op.{Op}

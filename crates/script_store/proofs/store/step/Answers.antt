@@ -1,4 +1,4 @@
-use Rattle.std.proofs.Common.{rules}
+use Rattle.std.proofs.Common.{refl, rules}
 use Rattle.script_store.specs.declared.fault.StepFault.TheVariants as stepping
 use Rattle.script_store.proofs.Histories.{on_err}
 use Rattle.script_store.proofs.Stepping.{is_work, left_alone, left_reading}
@@ -53,18 +53,18 @@ pub returns-then-drains-clause-same : goal.returns-then-drains-clause-same
 returns-then-drains-clause-same g c = drain_same c.args.store c.drain.result c.drain.ensures.drained
 
 pub act-requires-clause-work : goal.act-requires-clause-work
-act-requires-clause-work g c = is_work c.args.statement (c.if-drains.ensures.no c.if-drains.false)
+act-requires-clause-work g c = is_work c.args.statement (c.if-drains.ensures.no refl)
 
 pub returns-clause-answer : goal.returns-clause-answer
 returns-clause-answer g c = λ tells told h k. c.act.ensures.answer h k.waits
 
 pub returns-clause-after : goal.returns-clause-after
 returns-clause-after g c = λ tells told h k.
-    act_after h c.args.store c.args.statement c.act.result (c.if-drains.ensures.no c.if-drains.false) (c.act.ensures.after h k.waits)
+    act_after h c.args.store c.args.statement c.act.result (c.if-drains.ensures.no refl) (c.act.ensures.after h k.waits)
 
 pub returns-clause-holds : goal.returns-clause-holds
 returns-clause-holds g c = λ tells told h k.
-    act_holds h c.args.store c.args.statement c.act.result (g.T.FileTree.disk c.args.tree.now) (g.D.Device.state c.args.dev.now) (c.if-drains.ensures.no c.if-drains.false)
+    act_holds h c.args.store c.args.statement c.act.result (g.T.FileTree.disk c.args.tree.now) (g.D.Device.state c.args.dev.now) (c.if-drains.ensures.no refl)
     c.act.ensures.rest (c.act.ensures.waits h k.waits) k
 
 pub returns-clause-left : goal.returns-clause-left
