@@ -1,5 +1,5 @@
 -- A store whose images are past all that is journalled, and whose journal holds no entry, is closed.
-use Rattle.std.proofs.Common.{◌≡◌, ℕ, suc, ◌+◌, ◌-◌, ◌<◌, ◌≤◌, ◌^◌, List, [], ◌∷◌, length, refl, sym, ◌∙◌, ap, subst, arith}
+use Rattle.std.proofs.Common.{◌≡◌, ℕ, suc, ◌<◌, ◌≤◌, ◌^◌, List, [], ◌∷◌, length, refl, sym, ◌∙◌, ap, subst, arith}
 use Rattle.fs_model.specs.declared.op.Op.{Op}
 use Rattle.fs_model.specs.Objects.{Objects}
 use Rattle.tree_api.specs.Tree.{Tree}
@@ -9,7 +9,7 @@ use Rattle.ring_frame.specs.Frame.{Entry}
 use Rattle.ring_images.specs.Held.{readable, EachSound}
 use Rattle.store_files.specs.declared.reading.Identity.{Identity}
 use Rattle.store_history.specs.History.{History, end_of, part, at, replay_of}
-use Rattle.store_history.specs.Journal.{IsJournal, RingSide, Spells}
+use Rattle.store_history.specs.Journal.{IsJournal, RingSide}
 use Rattle.store_history.specs.Pair.{Closed, StandsFor}
 use Rattle.store_history.proofs.Entries.{spells_length}
 use Rattle.store_history.proofs.Join.{pair_stands_for, less}
@@ -21,7 +21,7 @@ use Rattle.history_tails.specs.Tails.{IsTailOf}
 use Rattle.history_tails.proofs.Tails.{at_tail, stands_tail}
 use Rattle.ring_journal.specs.State.{State}
 use Rattle.file_store.specs.Store.{Store, IsDrained}
-use Rattle.file_store.specs.Holds.{Holds, Leaves, LeavesClosed, with_waiting}
+use Rattle.file_store.specs.Holds.{Holds, Leaves, LeavesClosed}
 
 no_entries : (es : List Entry) → length es ≡ 0 → es ≡ []
 no_entries [] none = refl

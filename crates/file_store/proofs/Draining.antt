@@ -25,7 +25,7 @@ use Rattle.history_tails.proofs.Waits.{waits_done}
 use Rattle.history_tails.proofs.Due.{waiting_ops, due_more}
 use Rattle.history_tails.proofs.Longer.{holding_more, meets}
 use Rattle.file_store.specs.declared.fault.First.{First}
-use Rattle.file_store.specs.Store.{Store, Works, IsCounted, IsDrained, waiting_in, working}
+use Rattle.file_store.specs.Store.{Store, IsCounted, IsDrained, waiting_in, working}
 use Rattle.file_store.specs.Holds.{Holds, Leaves, with_waiting}
 
 by_txns : (ws : List Queued) → waiting_ops ws ≡ map (λ txn. txn.ops) (txns_of ws)

@@ -1,20 +1,15 @@
 -- One transaction more that waits.
-use Rattle.std.proofs.Common.{◌≡◌, ℕ, List, [], ◌∷◌, ◌++◌, map, refl, sym, ◌∙◌, ap, subst, Result, Ok, Err, Some}
+use Rattle.std.proofs.Common.{◌≡◌, ℕ, List, [], ◌∷◌, ◌++◌, map, sym, subst}
 use Rattle.std.proofs.lemmas.List.{map-append}
 use Rattle.fs_model.specs.declared.op.Op.{Op}
 use Rattle.fs_model.specs.declared.op.Txn.{Txn}
 use Rattle.fs_model.specs.Check.{IsAccepted}
 use Rattle.store_history.specs.History.{History}
-use Rattle.queue_rules.specs.declared.fault.QueueFault.{QueueFault as Unqueued}
-use Rattle.queue_rules.specs.declared.fault.QueueFault.TheVariants as unqueued
-use Rattle.queue_rules.specs.Outcome.{Outcome, Answers}
 use Rattle.store_queue.specs.Waiting.{Waiting, with_txn as queue_with}
 use Rattle.history_tails.specs.Tails.{WaitBehind}
 use Rattle.history_tails.proofs.Waits.{waits_more}
-use Rattle.file_store.specs.declared.fault.QueueFault.{QueueFault}
-use Rattle.file_store.specs.Store.{Store, Works, waiting_in, with_txn}
+use Rattle.file_store.specs.Store.{Store}
 use Rattle.file_store.specs.Holds.{Waits}
-use Rattle.file_store.specs.Faults.{QueueTells, of_queue}
 
 pub waits_queued : (h : History) (s : Store) (old new : Waiting) (txn : Txn) (seq : ℕ) → s.queue ≡ old → Waits h s → IsAccepted old.colls txn.ops → new ≡ queue_with old txn seq
     → WaitBehind h (map (λ x. x.ops) new.txns) new.colls

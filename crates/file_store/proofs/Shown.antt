@@ -1,12 +1,11 @@
 -- A tree that reads as a history's objects shows them.
-use Rattle.std.proofs.Common.{◌≡◌, ℕ, ◌-◌, ◌≤◌, List, length, take, refl, sym, ◌∙◌, ap, subst, arith}
+use Rattle.std.proofs.Common.{◌≡◌, ℕ, ◌-◌, take, sym, ◌∙◌, ap, subst, arith}
 use Rattle.fs_names.specs.declared.settings.Settings.{Settings}
 use Rattle.fs_model.specs.Objects.{Objects}
 use Rattle.tree_api.specs.Tree.{Tree}
 use Rattle.tree_api.specs.Disk.{Disk as Files}
 use Rattle.dev_api.specs.Disk.{Disk}
 use Rattle.store_history.specs.History.{History, end_of, at}
-use Rattle.op_places.specs.Line.{IsPlain}
 use Rattle.tree_places.specs.Line.{ops_to, Past}
 use Rattle.tree_places.proofs.Flat.{fold_flat}
 use Rattle.tree_places.proofs.Histories.{plain_to}

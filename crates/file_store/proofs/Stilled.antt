@@ -1,9 +1,9 @@
 -- A tree that only was read.
-use Rattle.std.proofs.Common.{◌≡◌, ℕ, List, refl, sym, ◌∙◌, ap, subst, Some}
+use Rattle.std.proofs.Common.{◌≡◌, ℕ, List, sym, ◌∙◌, ap, subst, Some}
 use Rattle.fs_names.specs.declared.coll.Coll.{Coll}
 use Rattle.fs_names.specs.declared.settings.Settings.{Settings}
 use Rattle.tree_api.specs.Tree.{Tree, IsDir, IsFree}
-use Rattle.tree_api.specs.Disk.{Disk, Stays, Still}
+use Rattle.tree_api.specs.Disk.{Disk, Stays}
 use Rattle.lfn_index.specs.Directory.{lfn_name, entry}
 use Rattle.lfn_index.specs.Changes.{aside}
 use Rattle.replay_guard.specs.Guards.{guard_name}

@@ -1,9 +1,7 @@
 -- Images of a store stay images where trees of the trash are swept.
 use Rattle.std.proofs.Common.{◌≡◌, ℕ, suc, ◌+◌, ◌≤◌, List, [], ◌∷◌, ◌++◌, length, refl, sym, ◌∙◌, ap, arith, length-append, append_assoc, Option, Some, None}
 use Rattle.std.proofs.lemmas.List.{length_push}
-use Rattle.fs_names.specs.declared.coll.Coll.{Coll}
 use Rattle.fs_names.specs.declared.settings.Settings.{Settings}
-use Rattle.fs_names.specs.Reading.{CollFits}
 use Rattle.tree_api.specs.Tree.{Path, Version, Tree, IsFile, current, held, look}
 use Rattle.tree_api.specs.Disk.{Disk, Sound, Stays, From, Leaves, Everywhere}
 use Rattle.tree_api.proofs.Moments.{now_from}

@@ -1,5 +1,5 @@
 -- What the faults of the crates below are to a store.
-use Rattle.std.specs.Prelude.{◌≡◌, ℕ, length, Option, Some, None, Result, Ok, Err}
+use Rattle.std.specs.Prelude.{◌≡◌, ℕ, length, Some, Result, Ok, Err}
 use Rattle.index_fault.specs.declared.IndexFault.{IndexFault}
 use Rattle.index_fault.specs.declared.IndexFault.TheVariants as index
 use Rattle.store_turns.specs.declared.numbers.StoreFault.{StoreFault}

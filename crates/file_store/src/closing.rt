@@ -47,11 +47,7 @@ impl FileStore {
     /// Drains, empties the trash, and makes the whole tree stable: nothing is left to replay then. Gives the last number.
     ///
     /// After a fault a mount finds all that was acknowledged.
-    pub fn close<T: FileTree, D: Device>(
-        self,
-        tree: &mut T,
-        dev: &mut D,
-    ) -> Result<u64, TurnFault>
+    pub fn close<T: FileTree, D: Device>(self, tree: &mut T, dev: &mut D) -> Result<u64, TurnFault>
         requires tree { IsItsTree self (T.tells tree.old) (T.disk tree.old) }
         requires device { IsItsDevice self (D.tells dev.old) (D.state dev.old) }
         ensures number { IfOk result (λ last. last ≡ self.queue.last) }

@@ -1,9 +1,10 @@
 -- Collections that are made one after the other.
-use Rattle.std.proofs.Common.{◌≡◌, ℕ, ◌+◌, ◌<◌, List, [], ◌∷◌, ◌++◌, length, take, get_or, refl, sym, ◌∙◌, ap, Result, Ok, Err, OnOk}
+use Rattle.std.proofs.Common.{◌≡◌, ℕ, ◌+◌, ◌<◌, List, length, take, get_or, sym, ◌∙◌, ap, Result, Ok, Err, OnOk}
 use Rattle.std.proofs.lemmas.List.{take_more}
+use Rattle.std.specs.FinMap as map
 use Rattle.std.specs.FinSet as set
 use Rattle.fs_names.specs.declared.coll.Coll.{Coll}
-use Rattle.fs_names.specs.Order.{coll_cmp, coll_cmp_total, coll_cmp-IsAntisymmetric}
+use Rattle.fs_names.specs.Order.{coll_cmp_total, coll_cmp-IsAntisymmetric}
 use Rattle.fs_model.specs.declared.op.Op.{Op}
 use Rattle.fs_model.specs.declared.op.Op.TheVariants.{MkColl}
 use Rattle.fs_model.specs.Objects.{Objects}
@@ -23,3 +24,8 @@ one_more names i c S T less before is =
     is ∙ ap (λ (s : CollSet). set.insert s (get_or names i c)) before
     ∙ sym (set.from_list_push coll_cmp_total coll_cmp-IsAntisymmetric (take i names) (get_or names i c))
     ∙ ap (λ (l : List Coll). let s : CollSet = set.from_list l in s) (sym (take_more names i c less))
+
+-- the collections of objects, by their names
+pub colls_are : (O : Objects) (names : List Coll) (S : CollSet) → names ≡ map.keys O → S ≡ set.from_list names → S ≡ colls_of O
+unfolding colls_of
+colls_are O names S is made = made ∙ ap (λ (l : List Coll). let s : CollSet = set.from_list l in s) is

@@ -1,9 +1,9 @@
 -- What was mounted, as a store.
-use Rattle.std.proofs.Common.{◌≡◌, ◌⊎◌, ⊎_elim, inl, inr, ℕ, ◌+◌, ◌≤◌, List, [], length, map, refl, sym, ◌∙◌, ap, subst, arith}
+use Rattle.std.proofs.Common.{◌≡◌, ⊎_elim, inl, inr, ℕ, List, [], refl, sym, ◌∙◌, ap, subst, arith}
 use Rattle.fs_model.specs.Objects.{Objects}
 use Rattle.fs_model.specs.Colls.{CollSet, colls_of}
 use Rattle.tree_api.specs.Tree.{Tree}
-use Rattle.tree_api.specs.Disk.{Disk as Files, Sound, Stays, Keeps, Everywhere}
+use Rattle.tree_api.specs.Disk.{Disk as Files, Sound, Stays, Keeps}
 use Rattle.tree_api.proofs.Moments.{started, goes_on, joined, weaker, now_from}
 use Rattle.dev_api.specs.Disk.{Disk, IsImage}
 use Rattle.dev_api.specs.DeviceState.{DeviceState}
@@ -11,22 +11,20 @@ use Rattle.dev_api.specs.Run.{KeepsSince}
 use Rattle.ring_images.specs.Held.{ReadsSound}
 use Rattle.ring_journal.specs.State.{IsSettled, IsUnspentImage}
 use Rattle.store_history.specs.Journal.{EachImage}
-use Rattle.store_history.specs.History.{History, end_of, at}
+use Rattle.store_history.specs.History.{at}
 use Rattle.store_history.specs.Images.{Images}
 use Rattle.store_history.specs.Pair.{StandsAt}
 use Rattle.store_files.specs.declared.reading.Identity.{Identity}
 use Rattle.store_turns.specs.declared.numbers.Numbers.{Numbers}
 use Rattle.store_mount.specs.declared.mounting.Mounted.{Mounted}
-use Rattle.store_mount.specs.Mounts.{AllStand, Carries, PairsCarry, MountedAs, StandsNow, WasOrServes, WasOrStands}
+use Rattle.store_mount.specs.Mounts.{AllStand, PairsCarry, MountedAs, StandsNow, WasOrServes, WasOrStands}
 use Rattle.store_mount.proofs.Carried.{all_moments}
 use Rattle.store_queue.specs.Waiting.{Waiting, none_waiting}
 use Rattle.tree_places.specs.Images.{StoreImage, reads}
 use Rattle.tree_shows.specs.Shows.{Shows}
-use Rattle.history_tails.specs.Tails.{begun}
 use Rattle.history_tails.proofs.Tails.{tail_begun}
 use Rattle.history_tails.proofs.Waits.{waits_begun}
-use Rattle.file_store.specs.Store.{Store, working}
-use Rattle.file_store.specs.Holds.{Holds}
+use Rattle.file_store.specs.Store.{working}
 use Rattle.file_store.proofs.Shown.{shown_at}
 use Rattle.file_store.proofs.Stilled.{holding_stays}
 use Rattle.store_opening.specs.Mounts.{MountsAs}

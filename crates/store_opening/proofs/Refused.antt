@@ -1,5 +1,5 @@
 -- A tree that is a store, and one that is none.
-use Rattle.std.proofs.Common.{◌≡◌, ℕ, List, subst, Result, Ok, Err}
+use Rattle.std.proofs.Common.{◌≡◌, ℕ, List, subst, Err}
 use Rattle.fs_names.specs.declared.settings.Settings.{Settings}
 use Rattle.tree_api.specs.Tree.{Tree}
 use Rattle.store_files.specs.Stores.{IsStore}
@@ -7,7 +7,7 @@ use Rattle.store_files.specs.declared.reading.Identity.{Identity}
 use Rattle.store_files.proofs.Once.{not_lacking, not_other, not_bad}
 use Rattle.store_opening.specs.declared.fault.MountFault.{MountFault}
 use Rattle.store_opening.specs.declared.fault.MountFault.TheVariants.{NotAStore, WrongVersion, BadSettings, NoHeader, WrongFsid, Spent, BadSeq, JournalGap, Damaged, BadEntry, Tree as OfTree, Device, Memory}
-use Rattle.store_opening.specs.Mounts.{ExplainsOf, IsNoStore, IsOutside, Refuses, TellsStore}
+use Rattle.store_opening.specs.Mounts.{ExplainsOf, IsOutside, Refuses, TellsStore}
 
 -- which store a tree is is one
 pub as_store : (P : Identity → Type 0) (x id : Identity) → (x.fsid ≡ id.fsid) × (x.settings ≡ id.settings) → P x → P id
@@ -59,19 +59,3 @@ told_outside t id store (BadEntry seq) is = is
 told_outside t id store OfTree is = tt
 told_outside t id store Device is = tt
 told_outside t id store Memory is = tt
-
--- a store is refused for its texts nowhere else
-pub explains_store : (id : Identity) (t : Tree) (bytes : List ℕ) (f : MountFault) → ExplainsOf id t bytes f → IsNoStore f → ⊥
-explains_store id t bytes NotAStore is none = is
-explains_store id t bytes (WrongVersion found) is none = is
-explains_store id t bytes BadSettings is none = is
-explains_store id t bytes NoHeader is none = none
-explains_store id t bytes (WrongFsid tree ring) is none = none
-explains_store id t bytes Spent is none = none
-explains_store id t bytes BadSeq is none = none
-explains_store id t bytes (JournalGap start committed) is none = none
-explains_store id t bytes (Damaged path) is none = none
-explains_store id t bytes (BadEntry seq) is none = none
-explains_store id t bytes OfTree is none = none
-explains_store id t bytes Device is none = none
-explains_store id t bytes Memory is none = none

@@ -21,7 +21,7 @@ ghost use Rattle.tree_shows.specs.Shows.{Shows};
 ghost use Rattle.apply_ops.specs.Next.{IsReady};
 ghost use Rattle.file_store.specs.Store.{IsItsTree, IsItsDevice, Works};
 ghost use Rattle.store_opening.specs.Faults.{of_mount};
-ghost use Rattle.store_opening.specs.Mounts.{ExplainsOf, IsFoundFirst, IsFresh, IsOutside, MountsAs};
+ghost use Rattle.store_opening.specs.Mounts.{ExplainsOf, IsFoundFirst, IsFresh, IsNoStore, IsOutside, MountsAs};
 
 use crate::fault::MountFault;
 use dev_api::Device;
@@ -71,6 +71,7 @@ fn read_colls<T: FileTree>(alloc: Global, tree: &mut T, set: &Settings) -> Resul
     ensures still { T.tells tree.new → Still (T.disk tree.old) (T.disk tree.new) }
     ensures reads { T.tells tree.new → (O : Objects) → Shows set.now O (T.disk tree.old).tree → IfOk result (λ colls. colls ≡ colls_of O) }
     ensures outside { T.tells tree.new → IfErr result IsOutside }
+    ensures usable { IfErr result (λ fault. IsNoStore fault → ⊥) }
     ensures device { IsErrOf result MountFault.Device → ⊥ }
     ensures faults { (T.disk tree.old).faults ≤ (T.disk tree.new).faults }
     ensures cause { IsErrOf result MountFault.Tree → Counted (T.disk tree.old).faults (T.disk tree.new).faults }
@@ -114,6 +115,7 @@ pub(crate) fn open<T: FileTree, D: Device>(
     ensures only { T.tells tree.new → D.tells dev.new → (o : Objects) (n last : ℕ)
         → StandsNow (StoreImage identity.now) identity.now.fsid (T.disk tree.old) (D.state dev.old).disk o n last
         → IsUnspentImage (D.state dev.old).disk.reads → IfErr result IsOutside }
+    ensures usable { IfErr result (λ fault. IsNoStore fault → ⊥) }
     ensures tree_stays { T.tells tree.new → IfErr result (λ fault. IsFoundFirst fault → Stays (T.disk tree.old) (T.disk tree.new)) }
     ensures device_reads { T.tells tree.new → D.tells dev.new → IfErr result (λ fault. IsFoundFirst fault → (D.state dev.new).disk.reads ≡ (D.state dev.old).disk.reads) }
     ensures told { T.tells tree.new → T.tells tree.old }

@@ -7,10 +7,10 @@ use Rattle.tree_api.specs.Tree.{Path, Tree, current, look}
 use Rattle.lfn_index.specs.Changes.{aside}
 use Rattle.lfn_index.specs.Directory.{entry}
 use Rattle.tree_stands.specs.Trees.{dir_of}
-use Rattle.commit_point.specs.Number.{number_path, number_file, building, Renumbers}
+use Rattle.commit_point.specs.Number.{number_path, number_file, Renumbers}
 use Rattle.store_files.specs.Stores.{version_path, fsid_path, settings_path, omap, trash, HasText, IsStore}
 use Rattle.op_effects.specs.Ready.{OffStays}
-use Rattle.tree_places.proofs.Own.{dir_stays, two_not_three, off_two, look_off, two_off, last_off}
+use Rattle.tree_places.proofs.Own.{dir_stays, off_two, look_off, two_off, last_off}
 
 -- the files and directories by which a tree is known as a store
 pub record LooksAlike (e f : Tree) : Type 0 where

@@ -1,20 +1,18 @@
-use Rattle.std.proofs.Common.{◌≡◌, ℕ, List, sym, ◌∙◌, ap, subst, rules}
+use Rattle.std.proofs.Common.{ℕ, subst, rules}
 use Rattle.fs_model.specs.Objects.{Objects}
 use Rattle.tree_api.specs.Tree.{Tree}
 use Rattle.tree_api.specs.Disk.{Keeps}
 use Rattle.dev_api.specs.Run.{KeepsSince}
-use Rattle.ring_images.specs.Held.{ReadsSound}
 use Rattle.ring_journal.specs.State.{IsUnspentImage}
 use Rattle.store_history.specs.Journal.{EachImage}
 use Rattle.store_history.specs.Pair.{StandsAt}
 use Rattle.tree_places.specs.Images.{StoreImage}
-use Rattle.store_files.specs.Stores.{IsStore}
 use Rattle.store_files.specs.declared.reading.Identity.{Identity}
 use Rattle.store_mount.specs.Mounts.{PairsCarry, StandsNow, AllStand}
 use Rattle.store_mount.proofs.Carried.{settled_sound}
 use Rattle.store_opening.specs.Mounts.{ExplainsOf, IsOutside, MountsAs}
 use Rattle.store_opening.proofs.Opened.{then_carry, carry_same, then_trees, stands_then, moments_of, untouched_moments}
-use Rattle.store_opening.proofs.Refused.{as_store, refuses, told_refuses, told_outside, explains_store}
+use Rattle.store_opening.proofs.Refused.{as_store, refuses, told_refuses, told_outside}
 use Rattle.store_opening.proofs.mounting.mount.Goals as goal
 
 -- ---- the tree is no store
@@ -25,11 +23,11 @@ returns-in-Err-clause-exit g c = λ tells told so id is.
 
 pub returns-in-Err-clause-refused : goal.returns-in-Err-clause-refused
 returns-in-Err-clause-refused g c = λ tells told.
-    told_refuses (g.T.FileTree.disk c.args.tree.now).tree (g.D.Device.state c.args.dev.now).disk.reads c.in-Err.fault (c.identity.ensures.store (search rules))
+    told_refuses (g.T.FileTree.disk c.args.tree.now).tree (g.D.Device.state c.args.dev.now).disk.reads c.in-Err.fault (c.in-Err.ensures.store (search rules))
 
 pub returns-in-Err-clause-only : goal.returns-in-Err-clause-only
 returns-in-Err-clause-only g c = λ tells told id is o n last s fresh.
-    told_outside (g.T.FileTree.disk c.args.tree.now).tree id is c.in-Err.fault (c.identity.ensures.store (search rules))
+    told_outside (g.T.FileTree.disk c.args.tree.now).tree id is c.in-Err.fault (c.in-Err.ensures.store (search rules))
 
 -- ---- it isn't mounted
 
@@ -53,7 +51,7 @@ returns-in-Err-open-clause-only g c = λ tells told id is.
     let found = c.in-Ok.identity in
     as_store (λ (x : Identity). (o : Objects) (n last : ℕ) → StandsNow (StoreImage x) x.fsid old d o n last → IsUnspentImage d.reads → IsOutside c.in-Err-open.fault) found id
     (c.one_law.ensures old.tree found.fsid id.fsid found.settings id.settings (c.in-Ok.ensures.store (search rules)) is)
-    (λ o n last s fresh. c.open.ensures.only (search rules) (search rules) o n last (stands_then (StoreImage found) found.fsid old mid d o n last (c.identity.ensures.still (search rules)).stays s) fresh)
+    (λ o n last s fresh. c.in-Err-open.ensures.only (search rules) (search rules) o n last (stands_then (StoreImage found) found.fsid old mid d o n last (c.identity.ensures.still (search rules)).stays s) fresh)
 
 pub returns-in-Err-open-clause-refused : goal.returns-in-Err-open-clause-refused
 returns-in-Err-open-clause-refused g c = λ tells told.
@@ -62,6 +60,9 @@ returns-in-Err-open-clause-refused g c = λ tells told.
     let bytes = (g.D.Device.state c.args.dev.now).disk.reads in
     refuses (g.T.FileTree.disk c.args.tree.now).tree bytes found (c.in-Ok.ensures.store (search rules)) c.in-Err-open.fault
     (subst (λ (t : Tree). ExplainsOf found t bytes c.in-Err-open.fault) back (c.in-Err-open.ensures.refused (search rules) (search rules)))
+
+pub returns-in-Err-open-clause-no_store : goal.returns-in-Err-open-clause-no_store
+returns-in-Err-open-clause-no_store g c = λ tells none. absurd (c.in-Err-open.ensures.usable none)
 
 -- ---- it is
 

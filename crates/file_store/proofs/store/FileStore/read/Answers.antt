@@ -1,6 +1,5 @@
-use Rattle.std.proofs.Common.{◌≡◌, sym, ◌∙◌, ap, subst, rules}
+use Rattle.std.proofs.Common.{sym, ◌∙◌, subst, rules}
 use Rattle.fs_names.specs.declared.settings.Settings.{Settings}
-use Rattle.fs_model.specs.Objects.{Objects}
 use Rattle.store_history.specs.History.{at, end_of}
 use Rattle.tree_shows.specs.Shows.{Shows}
 use Rattle.apply_ops.specs.Next.{IsReady}
