@@ -1,5 +1,4 @@
 mod Answering
-mod Clearing
 mod Closed
 mod Draining
 mod Queueing

@@ -1,5 +1,5 @@
 //! Closing a store.
-ghost use Rattle.std.specs.Prelude.{◌≡◌, ◌≢◌, ◌≤◌, ℕ, List, Some, None, Err, IfOk, OnOk, IfErr, IsErrOf};
+ghost use Rattle.std.specs.Prelude.{◌≡◌, ◌≢◌, ◌≤◌, ℕ, List, Some, None, Err, OnOk, IfErr, IsErrOf};
 ghost use Rattle.fault_count.specs.Counted.{Counted};
 ghost use Rattle.tree_api.specs.Tree.{Path, IsDir};
 ghost use Rattle.tree_api.specs.Disk.{Everywhere};
@@ -44,13 +44,12 @@ fn clear_trash<T: FileTree>(alloc: Global, tree: &mut T) -> Result<(), TurnFault
 }
 
 impl FileStore {
-    /// Drains, empties the trash, and makes the whole tree stable: nothing is left to replay then. Gives the last number.
+    /// Drains, empties the trash, and makes the whole tree stable: nothing is left to replay then.
     ///
     /// After a fault a mount finds all that was acknowledged.
-    pub fn close<T: FileTree, D: Device>(self, tree: &mut T, dev: &mut D) -> Result<u64, TurnFault>
+    pub fn close<T: FileTree, D: Device>(self, tree: &mut T, dev: &mut D) -> Result<(), TurnFault>
         requires tree { IsItsTree self (T.tells tree.old) (T.disk tree.old) }
         requires device { IsItsDevice self (D.tells dev.old) (D.state dev.old) }
-        ensures number { IfOk result (λ last. last ≡ self.queue.last) }
         ensures closed { T.tells tree.new → D.tells dev.new → (h : History) → Holds h self (T.disk tree.old) (D.state dev.old).disk
             → OnOk result (LeavesClosed (with_waiting h self) self (T.disk tree.new) (D.state dev.new).disk) }
         ensures swept { T.tells tree.new → OnOk result (IsSwept (T.disk tree.new)) }
@@ -74,14 +73,14 @@ impl FileStore {
         }
         let (alloc, _set) = self.place();
         let mut store = self;
-        let last = match store.drain(tree, dev) {
-            Ok(last) => last,
+        match store.drain(tree, dev) {
+            Ok(_) => {}
             Err(fault) => return Err(fault),
-        };
+        }
         match clear_trash(alloc, tree) {
             Ok(()) => {}
             Err(fault) => return Err(fault),
         }
-        Ok(last)
+        Ok(())
     }
 }

@@ -1,8 +1,6 @@
 use Rattle.std.proofs.Common.{ap, arith}
 use Rattle.store_turns.specs.declared.numbers.Numbers.{Numbers}
-use Rattle.file_store.specs.declared.fault.TurnFault.TheVariants.{Damaged}
 use Rattle.file_store.specs.Holds.{with_waiting}
-use Rattle.file_store.proofs.Clearing.{same_fault}
 use Rattle.file_store.proofs.Closed.{closed_all, leaves_all, leaves_less}
 use Rattle.file_store.proofs.Swept.{never_deep}
 use Rattle.file_store.proofs.store.FileStore.close.Goals as goal
@@ -27,7 +25,7 @@ returns-in-Err-clear_trash-clause-undamaged g c = λ tells p is.
     let mid = c.clear_trash.ensures.told tells in
     let ready = c.drain.ensures.tree mid c.in-Ok.ensures.drained.works in
     never_deep (g.T.FileTree.disk c.drain.new.tree).tree p ready.own.clear.trees
-    (c.in-Err-clear_trash.ensures.damaged tells p (same_fault c.in-Err-clear_trash.fault (Damaged p) is))
+    (c.in-Err-clear_trash.ensures.damaged tells p is)
 
 pub returns-clause-closed : goal.returns-clause-closed
 returns-clause-closed g c = λ tells told h k.
