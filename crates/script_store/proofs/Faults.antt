@@ -1,6 +1,6 @@
 -- What faults tell.
-use Rattle.std.proofs.Common.{◌≡◌, refl, sym, ◌∙◌, ap, subst}
-use Rattle.std.specs.Prelude.{Some, None, ◌≢◌, Err, Result, IsErrOf}
+use Rattle.std.proofs.Common.{◌≡◌, refl, sym, ◌∙◌, subst}
+use Rattle.std.specs.Prelude.{Some, None, ◌≢◌}
 use Rattle.tree_api.specs.Tree.{Path}
 use Rattle.file_store.specs.declared.fault.First.{First}
 use Rattle.file_store.specs.declared.fault.TurnFault.{TurnFault}

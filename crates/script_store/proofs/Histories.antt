@@ -1,11 +1,10 @@
 -- Histories that go on, and what a crash leaves of a store.
-use Rattle.std.proofs.Common.{◌≡◌, ℕ, ◌+◌, ◌-◌, ◌≤◌, ◌<◌, List, [], ◌++◌, length, take, refl, sym, ◌∙◌, ap, subst, arith, append-nil, length-append}
+use Rattle.std.proofs.Common.{◌≡◌, ℕ, ◌-◌, ◌≤◌, List, [], length, refl, sym, ap, subst, arith, append-nil, length-append}
 use Rattle.std.specs.Prelude.{Result, Ok, Err, OnErr}
 use Rattle.std.proofs.lemmas.List.{take-append-le}
 use Rattle.fs_model.specs.declared.op.Op.{Op}
 use Rattle.fs_model.specs.Objects.{Objects}
 use Rattle.fs_model.specs.Rows.{fold_txns}
-use Rattle.tree_api.specs.Tree.{Tree}
 use Rattle.tree_api.specs.Disk.{Disk as Files}
 use Rattle.dev_api.specs.Disk.{Disk}
 use Rattle.ring_journal.specs.State.{State}
@@ -16,7 +15,8 @@ use Rattle.store_history.specs.Journal.{IsJournal, RingSide}
 use Rattle.store_history.specs.Pair.{StandsAt, StandsFor, PairsStand}
 use Rattle.store_history.proofs.Join.{less, pair_stands_for}
 use Rattle.history_tails.proofs.Tails.{stands_tail}
-use Rattle.tree_places.specs.Images.{Image}
+use Rattle.store_files.specs.declared.reading.Identity.{Identity}
+use Rattle.tree_places.specs.Images.{StoreImage}
 use Rattle.tree_places.proofs.Theory.{theory_law}
 use Rattle.fs_script.specs.declared.statement.Statement.{Statement}
 use Rattle.fs_script.specs.declared.statement.Statement.TheVariants.{Drain}
@@ -60,16 +60,17 @@ pub pairs_lower : {Kind : Type 0} (image : Images Kind) (fsid : List ℕ) (h : H
 pairs_lower image fsid h low few may d le leaves t is c of_disk sound unspent = less image fsid h few low t c le (leaves t is c of_disk sound unspent)
 
 pub longer : (h : History) (ys : List (List Op)) (low : ℕ) (s : Store) (t : Files) (d : Disk) → Leaves h low s t d → Leaves (more h ys) low s t d
-longer h ys low s t d leaves = pairs_longer (Image s.set) s.ring.head.fsid h ys low t.may d leaves
+longer h ys low s t d leaves = pairs_longer (StoreImage s.identity) s.identity.fsid h ys low t.may d leaves
 
 pub lower : (h : History) (low few : ℕ) (s : Store) (t : Files) (d : Disk) → few ≤ low → Leaves h low s t d → Leaves h few s t d
-lower h low few s t d le leaves = pairs_lower (Image s.set) s.ring.head.fsid h low few t.may d le leaves
+lower h low few s t d le leaves = pairs_lower (StoreImage s.identity) s.identity.fsid h low few t.may d le leaves
 
--- the same is left of a store with the same settings and identity
-pub leaves_same : (h : History) (low : ℕ) (s s2 : Store) (t : Files) (d : Disk) → s2.set ≡ s.set → s2.ring.head.fsid ≡ s.ring.head.fsid → Leaves h low s2 t d → Leaves h low s t d
-leaves_same h low s s2 t d set fsid leaves =
-    subst (λ (x : List ℕ). PairsStand (Image s.set) x h low t.may d) fsid
-    (subst (λ set_is. PairsStand (Image set_is) s2.ring.head.fsid h low t.may d) set leaves)
+-- the same is left of a store that is the same one
+abbrev leaves_of : History → ℕ → Files → Disk → Identity → Type 0
+leaves_of h low t d id = PairsStand (StoreImage id) id.fsid h low t.may d
+
+pub leaves_same : (h : History) (low : ℕ) (s s2 : Store) (t : Files) (d : Disk) → s2.identity ≡ s.identity → Leaves h low s2 t d → Leaves h low s t d
+leaves_same h low s s2 t d is leaves = subst (leaves_of h low t d) is leaves
 
 -- each sound image of a ring that holds a history is a journal of it: `journal_law` of `store_history`
 abbrev pub JournalLaw : Type 0
@@ -80,14 +81,14 @@ pub holds_leaves : JournalLaw → (h : History) (s : Store) (t : Files) (d : Dis
 holds_leaves law h s t d k tree may c image sound unspent =
     let n = s.numbers.committed in
     let m = s.numbers.journalled in
-    let fsid = s.ring.head.fsid in
+    let fsid = s.identity.fsid in
     let low : n ≤ m = k.on.ring.low in
     let journal : IsJournal fsid k.long n m m c = law fsid k.long n m m s.ring d k.on.ring c image sound in
-    let stands : StandsFor (Image s.set) fsid k.long m tree c =
-    pair_stands_for (Image s.set) ((theory_law s.set).laws) fsid k.long n n m n m m tree c (k.on.images tree may) journal k.on.ring.base (omega arith) (omega arith) low
+    let stands : StandsFor (StoreImage s.identity) fsid k.long m tree c =
+    pair_stands_for (StoreImage s.identity) (theory_law s.identity).laws fsid k.long n n m n m m tree c (k.on.images tree may) journal k.on.ring.base (omega arith) (omega arith) low
     (omega arith) k.on.ring.fits k.on.small m (omega arith) in
     let own : h.base ≤ m = omega (arith, k.end) in
-    less (Image s.set) fsid h (end_of h) m tree c (omega (arith, k.end)) (stands_tail (Image s.set) fsid h k.long m tree c k.tail own stands)
+    less (StoreImage s.identity) fsid h (end_of h) m tree c (omega (arith, k.end)) (stands_tail (StoreImage s.identity) fsid h k.long m tree c k.tail own stands)
 
 -- what a statement leaves is a part of all that waited, whichever statement it was
 pub statement_left : (h : History) (session : Session) (statement : Statement) (s : Store) (t : Files) (d : Disk) → ops_of session.waiting ≡ waiting_in s

@@ -1,11 +1,10 @@
 -- What a store holds, after statements.
-use Rattle.std.proofs.Common.{◌≡◌, ℕ, true, false, List, [], ◌∷◌, ◌++◌, refl, sym, ◌∙◌, ap, subst}
-use Rattle.std.specs.Prelude.{Option, map}
+use Rattle.std.proofs.Common.{◌≡◌, true, false, List, [], refl, sym, ◌∙◌, ap, subst}
+use Rattle.std.specs.Prelude.{Option}
 use Rattle.std.specs.List.{flat_map}
 use Rattle.fs_model.specs.declared.op.Op.{Op}
-use Rattle.fs_model.specs.declared.op.Txn.{Txn}
 use Rattle.fs_model.specs.Objects.{Objects}
-use Rattle.fs_model.specs.Rows.{fold_ops, fold_txns}
+use Rattle.fs_model.specs.Rows.{fold_ops}
 use Rattle.tree_api.specs.Disk.{Disk as Files}
 use Rattle.dev_api.specs.Disk.{Disk}
 use Rattle.dev_api.specs.DeviceState.{DeviceState}
@@ -13,15 +12,14 @@ use Rattle.store_history.specs.History.{History, end_of, at}
 use Rattle.store_turns.specs.declared.numbers.Numbers.{Numbers}
 use Rattle.store_queue.specs.Waiting.{Waiting}
 use Rattle.history_tails.proofs.Tails.{at_more}
-use Rattle.tree_places.specs.Line.{ops_of as flat}
 use Rattle.tree_places.proofs.Flat.{fold_flat}
 use Rattle.fs_script.specs.declared.statement.Statement.{Statement}
 use Rattle.fs_script.specs.declared.statement.Statement.TheVariants.{Drain, Read, Stat, Attrs, Omap, List as ListIn, Colls}
-use Rattle.fs_session.specs.Answers.{Session, step, after_drain, waiting_ops}
+use Rattle.fs_session.specs.Answers.{Session, step, after_drain}
 use Rattle.file_store.specs.Store.{Store, Works, IsItsTree, IsItsDevice, IsDrained, waiting_in}
 use Rattle.file_store.specs.Holds.{Holds, Waits, with_waiting}
 use Rattle.script_store.specs.declared.store.ScriptStore.{ScriptStore}
-use Rattle.script_store.specs.Script.{session_of, session_on, ops_of, is_reading, drained_in}
+use Rattle.script_store.specs.Script.{session_of, session_on, is_reading}
 use Rattle.script_store.specs.Held.{with_queue, more, with_drained, IsSame}
 use Rattle.script_store.proofs.Histories.{more_none, none_drained}
 use Rattle.script_store.proofs.Queued.{flat_waiting}
@@ -41,7 +39,7 @@ pub works_queued : (s s2 : Store) → s2 ≡ with_queue s s2.queue → Works s �
 works_queued s s2 is works = subst Works (sym is) works
 
 pub same_queued : (s s2 : Store) → s2 ≡ with_queue s s2.queue → IsSame s s2
-same_queued s s2 is = record { set = ap (λ (x : Store). x.set) is; fsid = ap (λ (x : Store). x.ring.head.fsid) is; size = ap (λ (x : Store). x.ring.head.size) is }
+same_queued s s2 is = record { identity = ap (λ (x : Store). x.identity) is; size = ap (λ (x : Store). x.ring.head.size) is }
 
 pub tree_queued : (s s2 : Store) (told : Type 0) (t : Files) → s2 ≡ with_queue s s2.queue → IsItsTree s told t → IsItsTree s2 told t
 tree_queued s s2 told t is its = subst (λ (x : Store). IsItsTree x told t) (sym is) its
@@ -76,7 +74,7 @@ drained_objects h s =
     at_more h (waiting_in s) ∙ sym (fold_flat O (waiting_in s)) ∙ sym (ap (fold_ops O) (flat_waiting s.queue.txns))
 
 module _ (h : History) (s s2 : Store) (opened : Option (List Op)) (drained : IsDrained s s2) where
-  session_with : Objects → Waiting → Numbers → Session
+  abbrev session_with : Objects → Waiting → Numbers → Session
   session_with objects queue numbers = record {
     objects = objects;
     waiting = queue.txns;

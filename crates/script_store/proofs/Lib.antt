@@ -4,3 +4,4 @@ pub mod Queued
 pub mod Faults
 pub mod Splits
 pub mod Stepping
+pub mod Answered

@@ -1,6 +1,6 @@
 -- What a queue tells, in the words of sessions.
 use Rattle.std.proofs.Common.{◌≡◌, ℕ, List, [], ◌∷◌, ◌++◌, length, refl, sym, ◌∙◌, ap, subst}
-use Rattle.std.specs.Prelude.{Option, None, Some, Result, Ok, Err, IfOk, OnOk, OnErr, ◌≢◌}
+use Rattle.std.specs.Prelude.{None, Some, Result, Ok, Err, IfOk, OnOk, OnErr, ◌≢◌}
 use Rattle.fs_model.specs.declared.op.Txn.{Txn}
 use Rattle.std.specs.List.{flat_map}
 use Rattle.fs_model.specs.declared.op.Op.{Op}
@@ -46,10 +46,10 @@ same_outcome h s txn waits =
     (waits.colls_are ∙ sym (ap (colls_after (colls_of (at h (end_of h)))) (flat_waiting s.queue.txns)))
 
 module _ (h : History) (s : Store) (txn : Txn) where
-  answers_of : Outcome → List Answer
+  abbrev answers_of : Outcome → List Answer
   answers_of o = (queued_if o (session_of h s None) txn).answers
 
-  session_to : Outcome → Session
+  abbrev session_to : Outcome → Session
   session_to o = (queued_if o (session_of h s None) txn).session
 
   -- what is answered, by what the queue has room for

@@ -1,8 +1,7 @@
 -- What each kind of statement leaves: a reading, a drain, any other.
-use Rattle.std.proofs.Common.{◌≡◌, ℕ, ◌≤◌, true, List, [], ◌∷◌, refl, sym, ◌∙◌, ap, subst, arith}
+use Rattle.std.proofs.Common.{◌≡◌, ℕ, ◌≤◌, true, [], ◌∷◌, refl, sym, ◌∙◌, ap, subst, arith}
 use Rattle.std.specs.Prelude.{Option}
 use Rattle.std.specs.Option.{option_to_list}
-use Rattle.fs_model.specs.declared.op.Op.{Op}
 use Rattle.tree_api.specs.Disk.{Disk as Files, Still}
 use Rattle.dev_api.specs.Disk.{Disk}
 use Rattle.dev_api.specs.DeviceState.{DeviceState}

@@ -36,6 +36,5 @@ with_queue s queue = record s { queue = queue }
 
 -- it is the store that was mounted, on a ring as large
 pub record IsSame (old new : Store) : Type 0 where
-  pub set : new.set ≡ old.set
-  pub fsid : new.ring.head.fsid ≡ old.ring.head.fsid
+  pub identity : new.identity ≡ old.identity
   pub size : new.ring.head.size ≡ old.ring.head.size

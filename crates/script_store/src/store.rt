@@ -1,5 +1,5 @@
 //! The store, and one statement after another.
-ghost use Rattle.std.specs.Prelude.{◌≡◌, ◌≢◌, ◌≤◌, true, [], ◌∷◌, Err, IfOk, OnErr, IsErrOf};
+ghost use Rattle.std.specs.Prelude.{◌≡◌, ◌≢◌, ◌≤◌, true, false, [], ◌∷◌, Err, IfOk, IfErr, OnErr, IsErrOf};
 ghost use Rattle.std.specs.Option.{option_to_list};
 ghost use Rattle.fault_count.specs.Counted.{Counted};
 ghost use Rattle.tree_api.specs.Tree.{Path};
@@ -7,9 +7,9 @@ ghost use Rattle.tree_api.specs.Disk.{Still};
 ghost use Rattle.store_history.specs.History.{History};
 ghost use Rattle.fs_session.specs.Answers.{step as step_of};
 ghost use Rattle.file_store.specs.Store.{Works, IsItsTree, IsItsDevice, IsDrained};
-ghost use Rattle.file_store.specs.Holds.{Holds, Reads, with_waiting};
-ghost use Rattle.script_store.specs.Script.{session_on, is_reading};
-ghost use Rattle.script_store.specs.Held.{HoldsOn, with_drained, LeavesSome, IsSame};
+ghost use Rattle.file_store.specs.Holds.{Holds, Reads, Waits, with_waiting};
+ghost use Rattle.script_store.specs.Script.{session_on, IsWork, is_reading};
+ghost use Rattle.script_store.specs.Held.{HoldsOn, with_drained, with_queue, LeavesSome, IsSame};
 
 use crate::fault::{StepFault, of_reading, of_turn};
 use crate::queueing::work;
@@ -67,6 +67,22 @@ fn read<T: FileTree>(
     })
 }
 
+// Whether a statement drains the store.
+fn drains(statement: &Statement) -> bool
+    ensures yes { result ≡ true → statement.now ≡ Statement.Drain }
+    ensures no { result ≡ false → statement.now ≢ Statement.Drain }
+{
+    match statement {
+        Statement::Drain => true,
+        _ => false,
+    }
+}
+
+// A statement that is done with.
+fn discard(statement: Statement) {
+    let _ = statement;
+}
+
 // Drains the store.
 fn drain<T: FileTree, D: Device>(
     store: ScriptStore,
@@ -106,6 +122,25 @@ fn drain<T: FileTree, D: Device>(
     })
 }
 
+// Does a statement that touches neither tree nor device.
+fn act(alloc: Global, store: ScriptStore, statement: Statement) -> Result<Stepped, StepFault>
+    requires works { Works store.store }
+    requires work { IsWork statement }
+    requires no_reading { is_reading statement ≡ false }
+    ensures answer { (h : History) → Waits h store.store
+        → IfOk result (λ stepped. option_to_list stepped.answer ≡ (step_of (session_on h store) statement).answers) }
+    ensures after { (h : History) → Waits h store.store
+        → IfOk result (λ stepped. session_on h stepped.store ≡ (step_of (session_on h store) statement).session) }
+    ensures waits { (h : History) → Waits h store.store → IfOk result (λ stepped. Waits h stepped.store.store) }
+    ensures rest { IfOk result (λ stepped. stepped.store.store ≡ with_queue store.store stepped.store.store.queue) }
+    ensures memory { IfErr result (λ fault. fault ≡ StepFault.Memory) }
+{
+    match work(alloc, store, statement) {
+        Ok(stepped) => Ok(stepped),
+        Err(_) => Err(StepFault::Memory),
+    }
+}
+
 /// Does what a statement says, and answers it. What was acknowledged before is never lost, whatever becomes of it.
 pub fn step<T: FileTree, D: Device>(
     alloc: Global,
@@ -140,11 +175,11 @@ pub fn step<T: FileTree, D: Device>(
 {
     journal_law();
     if reads_tree(&statement) {
-        let stepped = read(store, statement, tree)?;
-        return Ok(stepped);
+        return read(store, statement, tree);
     }
-    match statement {
-        Statement::Drain => Ok(drain(store, tree, dev)?),
-        statement => Ok(work(alloc, store, statement)?),
+    if drains(&statement) {
+        discard(statement);
+        return drain(store, tree, dev);
     }
+    act(alloc, store, statement)
 }
