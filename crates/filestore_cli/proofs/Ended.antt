@@ -1,6 +1,7 @@
 -- A store that is closed behind the last line.
 use Rattle.std.proofs.Common.{◌≡◌, ℕ, ◌+◌, List, [], ◌++◌, length, refl, sym, ◌∙◌, ap, subst, arith, Option, Some, None}
 use mathlib.Core.List.{append-nil}
+use Rattle.std.specs.Prelude.{Result, Ok, Err}
 use Rattle.tree_api.specs.Tree.{Path}
 use Rattle.tree_api.specs.Disk.{Everywhere}
 use Rattle.io_edge.specs.Flow.{Outflow}
@@ -29,7 +30,7 @@ use Rattle.filestore_cli.specs.Stop.{close_stop, step_stop}
 use Rattle.filestore_cli.specs.Run.{Survives, IsClosed, Done, Stopped, Halted, IsCausedBy, IsStartCaused, IsStartStop, IsStepStop, history}
 
 module _ (id : Identity) (s : Session) (script : List Line) (store : ScriptStore) (sink : Seen Outflow) (w v : Sides) (run : HasRun id s script store w sink) where
-  h : History
+  abbrev pub h : History
   h = held_by s run.txns
 
   survive : (tried : List Line) → tried ≡ script → Leaves (with_waiting h store.store) (end_of h) store.store v.tree v.device.disk → Survives id s script tried v
@@ -70,6 +71,10 @@ module _ (id : Identity) (s : Session) (script : List Line) (store : ScriptStore
   all_halted (Refused refusal) only leaves = absurd only
 
 -- ---- what closing a store stops for
+
+-- a fault, whatever else the answer might have been
+pub err_is : {T : Type 0} (stop other : Stop) → ◌≡◌ {A = Result T Stop} (Err stop) (Err other) → stop ≡ other
+err_is stop other e = cc
 
 -- one that works isn't broken
 pub unbroken : (s : Held) (fault : TurnFault) → Works s → ClosesBroken s fault → (first : First) → fault ≡ turn.Broken first → ⊥

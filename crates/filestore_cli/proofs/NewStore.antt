@@ -77,11 +77,11 @@ module _ (w : Sides) (id : Identity) (size : ℕ) (tree : Sound w.tree) (closed 
 
   -- the session that a run begins with
   pub made_start : (room : ℕ) → w.device.size ≡ room → (i : Identity) (s : Session) → i ≡ new_identity → s ≡ new_session (room - 8192) → Starts Run w i s
-  made_start room same i s as new = (
+  made_start room same i s same_id new = (
     fin.empty,
     0,
     0,
-    subst (λ (j : Identity). ReadsAs j w fin.empty 0 0) (e ∙ sym as) made_reads,
+    subst (λ (j : Identity). ReadsAs j w fin.empty 0 0) (e ∙ sym same_id) made_reads,
     new ∙ ap (λ (k : ℕ). new_session (k - 8192)) (sym same),
   )
 

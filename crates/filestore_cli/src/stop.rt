@@ -130,32 +130,51 @@ fn print_damaged(alloc: Global, path: &TreePath) -> Result<Blob, AllocError>
     Ok(Blob::from_vec(line))
 }
 
+// A line that is always the same.
+fn plain(alloc: Global, line: &str) -> Result<Blob, AllocError>
+    ensures { IfOk result (λ text. text ≡ line.now) }
+{
+    Ok(Blob::from_vec(String::from_str(alloc, line)?.into_bytes()))
+}
+
+// The line that tells of two identities.
+fn print_fsids(alloc: Global, tree: &[u8], ring: &[u8]) -> Result<Blob, AllocError>
+    ensures { IfOk result (λ text. text ≡ mount_line (MountFault.WrongFsid tree.now ring.now)) }
+{
+    let tree = hex::encode(alloc, tree)?;
+    let ring = hex::encode(alloc, ring)?;
+    let line = format!(in alloc; "store: fsid {tree} {ring}\n")?;
+    Ok(Blob::from_vec(line.into_bytes()))
+}
+
 // The line that tells why a store wasn't mounted.
 fn print_mount_fault(alloc: Global, fault: &MountFault) -> Result<Blob, AllocError>
     ensures { IfOk result (λ text. text ≡ mount_line fault.now) }
 {
-    let text = match fault {
-        MountFault::NotAStore => String::from_str(alloc, "store: not a store\n")?,
-        MountFault::WrongVersion { found } => format!(in alloc; "store: version {found}\n")?,
-        MountFault::BadSettings => String::from_str(alloc, "store: bad settings\n")?,
-        MountFault::NoHeader => String::from_str(alloc, "store: no ring header\n")?,
-        MountFault::WrongFsid { tree, ring } => {
-            let tree = hex::encode(alloc, tree)?;
-            let ring = hex::encode(alloc, ring)?;
-            format!(in alloc; "store: fsid {tree} {ring}\n")?
+    match fault {
+        MountFault::NotAStore => plain(alloc, "store: not a store\n"),
+        MountFault::WrongVersion { found } => {
+            let line = format!(in alloc; "store: version {found}\n")?;
+            Ok(Blob::from_vec(line.into_bytes()))
         }
-        MountFault::Spent => String::from_str(alloc, "store: ring spent\n")?,
-        MountFault::BadSeq => String::from_str(alloc, "store: bad number\n")?,
+        MountFault::BadSettings => plain(alloc, "store: bad settings\n"),
+        MountFault::NoHeader => plain(alloc, "store: no ring header\n"),
+        MountFault::WrongFsid { tree, ring } => print_fsids(alloc, tree.as_slice(), ring.as_slice()),
+        MountFault::Spent => plain(alloc, "store: ring spent\n"),
+        MountFault::BadSeq => plain(alloc, "store: bad number\n"),
         MountFault::JournalGap { start, committed } => {
-            format!(in alloc; "store: journal gap {start} {committed}\n")?
+            let line = format!(in alloc; "store: journal gap {start} {committed}\n")?;
+            Ok(Blob::from_vec(line.into_bytes()))
         }
-        MountFault::Damaged { path } => return print_damaged(alloc, path),
-        MountFault::BadEntry { seq } => format!(in alloc; "store: bad entry {seq}\n")?,
-        MountFault::Tree => String::from_str(alloc, "fault: tree\n")?,
-        MountFault::Device => String::from_str(alloc, "fault: device\n")?,
-        MountFault::Memory => String::from_str(alloc, "fault: memory\n")?,
-    };
-    Ok(Blob::from_vec(text.into_bytes()))
+        MountFault::Damaged { path } => print_damaged(alloc, path),
+        MountFault::BadEntry { seq } => {
+            let line = format!(in alloc; "store: bad entry {seq}\n")?;
+            Ok(Blob::from_vec(line.into_bytes()))
+        }
+        MountFault::Tree => plain(alloc, "fault: tree\n"),
+        MountFault::Device => plain(alloc, "fault: device\n"),
+        MountFault::Memory => plain(alloc, "fault: memory\n"),
+    }
 }
 
 impl Refusal {
