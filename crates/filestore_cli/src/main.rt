@@ -1,9 +1,11 @@
 //! FileStore: an object store that keeps each object as a file, with a journal before it.
 //!
-//! So far the journal is the store: a mount replays it into objects in memory.
+//! `ROOT JOURNAL WORD..` runs a command on the tree of files at ROOT, whose journal is the file JOURNAL.
 #![tactic(auto)]
 
+mod closing;
 mod command;
+mod opening;
 mod run;
 mod status;
 mod stop;
@@ -23,17 +25,22 @@ use std::process::ExitCode;
 use std::rt::Env;
 use std::{env, io};
 use stop::{Stop, end};
+use tree_real::RealTree;
 
-/// The words of the command line, behind ROOT, which isn't used yet.
+/// What the command line says.
 #[derive(Drop)]
 struct Arguments {
+    root: String,
     journal: String,
     words: Vec<Text>,
 }
 
 /// Reads the command line. None where it lacks ROOT or JOURNAL.
 fn read_arguments(rt: &(impl Env + AllocGlobal)) -> io::Result<Option<Arguments>> {
-    let mut args = env::args(rt)?.skip(2);
+    let mut args = env::args(rt)?.skip(1);
+    let Some(root) = args.next() else {
+        return Ok(None);
+    };
     let Some(journal) = args.next() else {
         return Ok(None);
     };
@@ -41,10 +48,14 @@ fn read_arguments(rt: &(impl Env + AllocGlobal)) -> io::Result<Option<Arguments>
     for word in args {
         words.push(Text::from_vec(word.into_bytes()))?;
     }
-    Ok(Some(Arguments { journal, words }))
+    Ok(Some(Arguments {
+        root,
+        journal,
+        words,
+    }))
 }
 
-/// Runs the command of the command line over standard input and output and the file of the journal.
+/// Runs the command of the command line over standard input and output, the tree at its root and the file of the journal.
 fn status_of<R: Env + AllocGlobal + Files + Input + Print + Clone + Drop>(
     rt: &R,
 ) -> Result<Status, AllocError>
@@ -58,8 +69,13 @@ where
         Err(error) if error.kind() == ErrorKind::OutOfMemory => {
             return Ok(end(rt.alloc(), &mut sink, Stop::Memory));
         }
-        // Words that aren't text are no command. No file is made for words that aren't one.
+        // Words that aren't text are no command. Nothing is opened for words that aren't one.
         Ok(_) | Err(_) => return Ok(end(rt.alloc(), &mut sink, Stop::Usage)),
+    };
+    let mut tree = match RealTree::at(rt.clone()?, arguments.root.as_str()) {
+        Ok(tree) => tree,
+        Err(EdgeFault::Outside) => return Ok(end(rt.alloc(), &mut sink, Stop::Tree)),
+        Err(EdgeFault::Memory) => return Ok(end(rt.alloc(), &mut sink, Stop::Memory)),
     };
     let mut device = match RealDevice::at(rt.clone()?, arguments.journal.as_str()) {
         Ok(device) => device,
@@ -70,6 +86,7 @@ where
         rt.alloc(),
         &arguments.words,
         &mut source,
+        &mut tree,
         &mut device,
         &mut sink,
     ))

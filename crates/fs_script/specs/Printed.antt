@@ -8,7 +8,7 @@ use Rattle.fs_model.specs.declared.op.Why.{Why}
 use Rattle.fs_model.specs.declared.op.Why.TheVariants.{Empty, NoCollection, CollectionExists, SameObject, TooBig, TooMany}
 use Rattle.fs_model.specs.declared.pair.Pair.{Pair}
 use Rattle.fs_script.specs.declared.answer.Answer.{Answer}
-use Rattle.fs_script.specs.declared.answer.Answer.TheVariants.{Queued, RefusedOp, TooLarge, RingFull, QueueFull, NumbersSpent, Drained, Bytes, Size, Attrs, Omap, Listed, Colls, Acked, Missing}
+use Rattle.fs_script.specs.declared.answer.Answer.TheVariants.{Queued, RefusedOp, NotBuilt, TooLarge, QueueFull, NumbersSpent, Drained, Bytes, Size, Attrs, Omap, Listed, Colls, Acked, Missing}
 use Rattle.fs_script.specs.declared.fault.ScriptWhy.{ScriptWhy}
 use Rattle.fs_script.specs.declared.fault.ScriptWhy.TheVariants.{UnknownWord, NotInTransaction, EndWithoutBegin, WrongCount, BadCollection, BadObject, BadNumber, BadBytes, NoEnd, TooLong}
 use Rattle.fs_script.specs.Bytes.{bytes_text}
@@ -43,8 +43,8 @@ omap_text header count = line_text (codes "omap " ++ bytes_text header ++ codes 
 unfoldable pub answer_text : Answer → List ℕ
 answer_text (Queued seq) = line_text (codes "queued " ++ decimal seq)
 answer_text (RefusedOp op why) = line_text (codes "refused op " ++ decimal op ++ codes " " ++ why_text why)
+answer_text NotBuilt = line_text (codes "refused not built")
 answer_text (TooLarge need size) = line_text (codes "refused too large " ++ decimal need ++ codes " " ++ decimal size)
-answer_text (RingFull need free) = line_text (codes "refused ring full " ++ decimal need ++ codes " " ++ decimal free)
 answer_text QueueFull = line_text (codes "refused queue full")
 answer_text NumbersSpent = line_text (codes "refused numbers spent")
 answer_text (Drained acked seq) = line_text (codes "ack " ++ decimal acked) ++ line_text (codes "drained " ++ decimal seq)

@@ -8,12 +8,11 @@ pub enum Answer {
     Queued { seq: u64 },
     /// The transaction's lowest refused operation, and why.
     RefusedOp { op: u32, why: Why },
+    /// An operation of the transaction is one that a store of files doesn't do so far.
+    NotBuilt,
     /// The entry of the transaction takes `need` bytes, and the journal's ring has `size` for entries in all; or the
     /// payload has 2^32 bytes or more, which no entry can spell.
     TooLarge { need: u64, size: u64 },
-    /// The entry takes `need` bytes, and `free` are free beside the entries that are held and those of the
-    /// transactions that wait.
-    RingFull { need: u64, free: u64 },
     /// 1,024 transactions wait.
     QueueFull,
     /// The last number is 2^63 - 1.

@@ -208,14 +208,6 @@ fn print_too_large(alloc: Global, need: u64, size: u64) -> Result<Blob, AllocErr
     Ok(blob(text))
 }
 
-#[tactic(auto, unfolding(crate::specs::Printed::answer_text))]
-fn print_ring_full(alloc: Global, need: u64, free: u64) -> Result<Blob, AllocError>
-    ensures { IfOk result (λ text. text ≡ answer_text (Answer.RingFull need free)) }
-{
-    let text = format!(in alloc; "refused ring full {need} {free}\n")?;
-    Ok(blob(text))
-}
-
 /// The lines of an answer, each ended by a newline.
 #[tactic(auto, unfolding(crate::specs::Printed::answer_text))]
 pub fn print_answer(alloc: Global, answer: &Answer) -> Result<Blob, AllocError>
@@ -227,8 +219,8 @@ pub fn print_answer(alloc: Global, answer: &Answer) -> Result<Blob, AllocError>
             let why = why_str(*why);
             format!(in alloc; "refused op {op} {why}\n")?
         }
+        Answer::NotBuilt => format!(in alloc; "refused not built\n")?,
         Answer::TooLarge { need, size } => return print_too_large(alloc, *need, *size),
-        Answer::RingFull { need, free } => return print_ring_full(alloc, *need, *free),
         Answer::QueueFull => format!(in alloc; "refused queue full\n")?,
         Answer::NumbersSpent => format!(in alloc; "refused numbers spent\n")?,
         Answer::Drained { acked, seq } => format!(in alloc; "ack {acked}\ndrained {seq}\n")?,

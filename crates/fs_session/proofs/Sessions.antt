@@ -1,9 +1,10 @@
 -- What lines do to a session, one after another.
 use Rattle.std.proofs.Common.{◌≡◌, ◌⊎◌, inl, inr, ℕ, zero, suc, ◌+◌, ◌<◌, ◌≤◌, Bool, true, false, cond, List, [], ◌∷◌, ◌++◌, length, get_or, refl, sym, ◌∙◌, ap, subst, arith, append_assoc, length-append}
 use Rattle.std.proofs.lemmas.Grind.{flat_map-append}
-use Rattle.std.specs.Prelude.{Option, None, Some, Contains, nat_le, nat_lt, ◌||◌, ◌^◌}
+use Rattle.std.specs.Prelude.{Option, None, Some, Ok, Err, Contains, nat_le, nat_lt, ◌||◌, ◌^◌}
 use Rattle.std.specs.List.{flat_map}
 use Rattle.ring_frame.specs.Frame.{need}
+use Rattle.built_ops.specs.Built.{unbuilt_in}
 use Rattle.fs_model.specs.declared.op.Op.{Op}
 use Rattle.fs_model.specs.declared.op.Txn.{Txn}
 use Rattle.fs_model.specs.declared.op.Why.{Why}
@@ -15,10 +16,11 @@ use Rattle.fs_script.specs.declared.statement.Statement.{Statement}
 use Rattle.fs_script.specs.declared.statement.Statement.TheVariants.{Do, Begin, End, Drain, Read, Stat, Attrs, Omap, List as ListIn, Colls, Acked}
 use Rattle.fs_script.specs.declared.statement.Line.{Line}
 use Rattle.fs_script.specs.declared.answer.Answer.{Answer}
-use Rattle.fs_script.specs.declared.answer.Answer.TheVariants.{Queued, TooLarge, RingFull, QueueFull, NumbersSpent, Drained}
+use Rattle.fs_script.specs.declared.answer.Answer.TheVariants.{RefusedOp, NotBuilt, TooLarge, QueueFull, NumbersSpent, Drained}
 use Rattle.fs_script.specs.Printed.{answer_text}
-use Rattle.fs_session.specs.Room.{queue_limit, last_number, payload_len, room_for}
-use Rattle.fs_session.specs.Answers.{Session, IsCounted, Step, silent, answering, colls_queued, free_bytes, room_answer, refused_or, queue_answer, queued_if, queue_step, txn_of, op_step, end_step, bytes_answer, size_answer, attrs_answer, omap_answer, page_answer, cursor_oid, step, followed_by, run_lines, session_after, queued_by, answers, answers_text}
+use Rattle.queue_rules.specs.declared.fault.QueueFault.TheVariants as queue
+use Rattle.queue_rules.specs.Outcome.{Outcome, queue_limit, last_number, room_for, payload_len, built_or, refused_or}
+use Rattle.fs_session.specs.Answers.{Session, IsCounted, Step, silent, answering, colls_queued, outcome_in, queued_if, txn_of, op_step, end_step, bytes_answer, size_answer, attrs_answer, omap_answer, page_answer, cursor_oid, step, followed_by, run_lines, session_after, queued_by, answers, answers_text}
 
 -- lines behind others
 
@@ -40,42 +42,40 @@ answers_text-append s xs ys =
     ap (λ (r : Step). flat_map answer_text r.answers) (run_lines-append s xs ys)
     ∙ flat_map-append answer_text (answers s xs) (answers (session_after s xs) ys)
 
--- what a transaction is answered: a number only if it is the next one, and never a drain
-abbrev OfQueue : ℕ → Answer → Type 0
-OfQueue n (Queued seq) = seq ≡ n
-OfQueue n (Drained acked seq) = ⊥
-OfQueue n _ = Unit {0}
+-- a transaction is given a number only if it is the next one
+abbrev OfQueue : ℕ → Outcome → Type 0
+OfQueue n (Ok seq) = seq ≡ n
+OfQueue n (Err fault) = Unit {0}
 
-room-of_queue : (n : ℕ) (large full many spent : Bool) (need size free : ℕ)
-    → OfQueue n (cond large (TooLarge need size) (cond full (RingFull need free) (cond many QueueFull (cond spent NumbersSpent (Queued n)))))
-room-of_queue n true full many spent need size free = tt
-room-of_queue n false true many spent need size free = tt
-room-of_queue n false false true spent need size free = tt
-room-of_queue n false false false true need size free = tt
-room-of_queue n false false false false need size free = refl
+room-of_queue : (n : ℕ) (large many spent : Bool) (need size : ℕ)
+    → OfQueue n (cond large (Err (queue.TooLarge need size)) (cond many (Err queue.QueueFull) (cond spent (Err queue.NumbersSpent) (Ok n))))
+room-of_queue n true many spent need size = tt
+room-of_queue n false true spent need size = tt
+room-of_queue n false false true need size = tt
+room-of_queue n false false false need size = refl
 
-room_for-of_queue : (size free waiting last len : ℕ) → OfQueue (last + 1) (room_for size free waiting last len)
-room_for-of_queue size free waiting last len =
-    room-of_queue (last + 1) (nat_lt size (need len) || nat_le (2 ^ 32) len) (nat_lt free (need len)) (nat_le queue_limit waiting) (nat_le last_number last)
-    (need len) size free
+room_for-of_queue : (size waiting last len : ℕ) → OfQueue (last + 1) (room_for size waiting last len)
+room_for-of_queue size waiting last len =
+    room-of_queue (last + 1) (nat_lt size (need len) || nat_le (2 ^ 32) len) (nat_le queue_limit waiting) (nat_le last_number last) (need len) size
 
-refused-of_queue : (n : ℕ) (r : Option (ℕ × Why)) (a : Answer) → OfQueue n a → OfQueue n (refused_or r a)
-refused-of_queue n None a h = h
-refused-of_queue n (Some (op, why)) a h = tt
+built-of_queue : (n : ℕ) (r : Option ℕ) (o : Outcome) → OfQueue n o → OfQueue n (built_or r o)
+built-of_queue n None o h = h
+built-of_queue n (Some op) o h = tt
 
-queue-of_queue : (s : Session) (txn : Txn) → OfQueue (s.last + 1) (queue_answer s txn)
+refused-of_queue : (n : ℕ) (r : Option (ℕ × Why)) (o : Outcome) → OfQueue n o → OfQueue n (refused_or r o)
+refused-of_queue n None o h = h
+refused-of_queue n (Some (op, why)) o h = tt
+
+queue-of_queue : (s : Session) (txn : Txn) → OfQueue (s.last + 1) (outcome_in s txn)
 queue-of_queue s txn =
-    refused-of_queue (s.last + 1) (txn_refusal (colls_queued s) txn.ops) (room_answer s txn)
-    (room_for-of_queue s.size (free_bytes s) (length s.waiting) s.last (payload_len txn))
+    let room = room_for s.size (length s.waiting) s.last (payload_len txn) in
+    refused-of_queue (s.last + 1) (txn_refusal (colls_queued s) txn.ops) (built_or (unbuilt_in txn.ops) room)
+    (built-of_queue (s.last + 1) (unbuilt_in txn.ops) room (room_for-of_queue s.size (length s.waiting) s.last (payload_len txn)))
 
 -- what is answered acknowledges nothing
 abbrev IsQuiet : Answer → Type 0
 IsQuiet (Drained acked seq) = ⊥
 IsQuiet _ = Unit {0}
-
-of_queue-quiet : (n : ℕ) (a : Answer) → OfQueue n a → IsQuiet a
-of_queue-quiet n (Drained acked seq) h = absurd h
-of_queue-quiet n _ h = tt
 
 bytes-quiet : (o : Option Object) (at len : ℕ) → IsQuiet (bytes_answer o at len)
 bytes-quiet None at len = tt
@@ -147,21 +147,29 @@ pub record IsStep (s : Session) (d : Step) : Type 0 where
 stays : (s : Session) (a : Answer) → IsQuiet a → IsStep s (answering s a)
 stays s a h = record { number = omega arith; counted = λ c. c; later = λ _. omega arith; within = λ _. quiet-within s.acked a h }
 
-queue-step : (s : Session) (txn : Txn) (a : Answer) → OfQueue (s.last + 1) a → IsStep s (queued_if a s txn)
-queue-step s txn (Queued seq) is =
+is_silent : (s : Session) → IsStep s (silent s)
+is_silent s = record { number = omega arith; counted = λ c. c; later = λ _. omega arith; within = λ _. tt }
+
+queue-step : (s : Session) (txn : Txn) (o : Outcome) → OfQueue (s.last + 1) o → IsStep s (queued_if o s txn)
+queue-step s txn (Ok seq) is =
     let more : length (s.waiting ++ txn ∷ []) ≡ length s.waiting + 1 = length-append s.waiting (txn ∷ []) in
     record { number = is; counted = λ c. omega (arith, is, more, c); later = λ _. omega arith; within = λ _. tt }
-queue-step s txn a h = stays s a (of_queue-quiet (s.last + 1) a h)
+queue-step s txn (Err (queue.Txn op why)) is = stays s (RefusedOp op why) tt
+queue-step s txn (Err (queue.NotBuilt op)) is = stays s NotBuilt tt
+queue-step s txn (Err (queue.TooLarge need size)) is = stays s (TooLarge need size) tt
+queue-step s txn (Err queue.QueueFull) is = stays s QueueFull tt
+queue-step s txn (Err queue.NumbersSpent) is = stays s NumbersSpent tt
+queue-step s txn (Err queue.Memory) is = is_silent s
 
 op-step : (opened : Option (List Op)) (s : Session) (op : Op) → IsStep s (op_step opened s op)
-op-step None s op = queue-step s (txn_of (op ∷ [])) (queue_answer s (txn_of (op ∷ []))) (queue-of_queue s (txn_of (op ∷ [])))
+op-step None s op = queue-step s (txn_of (op ∷ [])) (outcome_in s (txn_of (op ∷ []))) (queue-of_queue s (txn_of (op ∷ [])))
 op-step (Some ops) s op = record { number = omega arith; counted = λ c. c; later = λ _. omega arith; within = λ _. tt }
 
 end-step : (opened : Option (List Op)) (s : Session) → IsStep s (end_step opened s)
-end-step None s = record { number = omega arith; counted = λ c. c; later = λ _. omega arith; within = λ _. tt }
+end-step None s = is_silent s
 end-step (Some ops) s =
     let t : Session = record s { opened = None } in
-    let is = queue-step t (txn_of ops) (queue_answer t (txn_of ops)) (queue-of_queue t (txn_of ops)) in
+    let is = queue-step t (txn_of ops) (outcome_in t (txn_of ops)) (queue-of_queue t (txn_of ops)) in
     record { number = is.number; counted = is.counted; later = is.later; within = is.within }
 
 pub one-step : (s : Session) (t : Statement) → IsStep s (step s t)
@@ -180,7 +188,7 @@ one-step s Acked = stays s _ tt
 
 pub steps : (s : Session) (lines : List Line) → IsStep s (run_lines s lines)
 unfolding run_lines
-steps s [] = record { number = omega arith; counted = λ c. c; later = λ _. omega arith; within = λ _. tt }
+steps s [] = is_silent s
 steps s (x ∷ xs) =
     let first = step s x.statement in
     let one = one-step s x.statement in

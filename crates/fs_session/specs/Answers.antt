@@ -1,27 +1,27 @@
 -- What the statements of a script answer, from the objects of a store on.
-use Rattle.std.specs.Prelude.{◌≡◌, ℕ, ◌+◌, ◌-◌, List, [], ◌∷◌, ◌++◌, length, take, drop, map as map_list, Option, None, Some}
+use Rattle.std.specs.Prelude.{◌≡◌, ℕ, ◌+◌, List, [], ◌∷◌, ◌++◌, length, take, drop, map as map_list, Option, None, Some, Ok, Err}
 use Rattle.std.specs.List.{flat_map}
 use Rattle.std.specs.FinMap as map
 use Rattle.fs_names.specs.declared.oid.Oid.{Oid}
 use Rattle.fs_model.specs.declared.op.Op.{Op}
 use Rattle.fs_model.specs.declared.op.Txn.{Txn}
-use Rattle.fs_model.specs.declared.op.Why.{Why}
 use Rattle.fs_model.specs.declared.pair.Pair.{Pair}
 use Rattle.fs_model.specs.Objects.{ByteMap, Object, Objects, look}
 use Rattle.fs_model.specs.Colls.{CollSet, colls_of}
 use Rattle.fs_model.specs.Rows.{fold_ops}
-use Rattle.fs_model.specs.Check.{txn_refusal, colls_after}
+use Rattle.fs_model.specs.Check.{colls_after}
 use Rattle.fs_model.specs.declared.page.Page.{Page}
 use Rattle.fs_model.specs.Listing.{listing}
+use Rattle.queue_rules.specs.declared.fault.QueueFault.TheVariants as queue
+use Rattle.queue_rules.specs.Outcome.{Outcome, outcome}
 use Rattle.hash_order.specs.declared.cursor.Cursor.{Cursor}
 use Rattle.hash_order.specs.declared.cursor.Cursor.TheVariants.{Start, At}
 use Rattle.fs_script.specs.declared.statement.Statement.{Statement}
 use Rattle.fs_script.specs.declared.statement.Statement.TheVariants.{Do, Begin, End, Drain, Read, Stat, Attrs, Omap, List as ListIn, Colls, Acked}
 use Rattle.fs_script.specs.declared.statement.Line.{Line}
 use Rattle.fs_script.specs.declared.answer.Answer.{Answer}
-use Rattle.fs_script.specs.declared.answer.Answer.TheVariants.{Queued, RefusedOp, Drained, Bytes, Size, Attrs as AttrsOut, Omap as OmapOut, Listed, Colls as CollsOut, Acked as AckedOut, Missing}
+use Rattle.fs_script.specs.declared.answer.Answer.TheVariants.{Queued, RefusedOp, NotBuilt, TooLarge, QueueFull, NumbersSpent, Drained, Bytes, Size, Attrs as AttrsOut, Omap as OmapOut, Listed, Colls as CollsOut, Acked as AckedOut, Missing}
 use Rattle.fs_script.specs.Printed.{answer_text}
-use Rattle.fs_session.specs.Room.{payload_len, needs_of, room_for}
 
 -- a store, as the statements of a script see it
 pub record Session : Type 0 where
@@ -37,16 +37,14 @@ pub record Session : Type 0 where
   pub acked : ℕ
   -- the bytes that the journal's ring has for entries
   pub size : ℕ
-  -- the bytes that the entries held in it take
-  pub used : ℕ
 
 -- a session without waiting transactions
-abbrev pub started : Objects → ℕ → ℕ → ℕ → Session
-started O last size used = record { objects = O; waiting = []; opened = None; last = last; acked = last; size = size; used = used }
+abbrev pub started : Objects → ℕ → ℕ → Session
+started O last size = record { objects = O; waiting = []; opened = None; last = last; acked = last; size = size }
 
--- a store without collections, before its first transaction, whose ring is empty
+-- a store without collections, before its first transaction
 abbrev pub new_session : ℕ → Session
-new_session size = started map.empty 0 size 0
+new_session size = started map.empty 0 size
 
 -- what was acknowledged and what waits make all that was queued
 abbrev pub IsCounted : Session → Type 0
@@ -73,28 +71,23 @@ answering s answer = record { session = s; answers = answer ∷ []; queued = [] 
 
 -- transactions
 
--- the bytes that are left where all that waits has its entry
-abbrev pub free_bytes : Session → ℕ
-free_bytes s = s.size - s.used - needs_of s.waiting
-
-abbrev pub room_answer : Session → Txn → Answer
-room_answer s txn = room_for s.size (free_bytes s) (length s.waiting) s.last (payload_len txn)
-
-abbrev pub refused_or : Option (ℕ × Why) → Answer → Answer
-refused_or None answer = answer
-refused_or (Some (op, why)) answer = RefusedOp op why
-
-abbrev pub queue_answer : Session → Txn → Answer
-queue_answer s txn = refused_or (txn_refusal (colls_queued s) txn.ops) (room_answer s txn)
-
--- only a transaction that is given a number waits
-abbrev pub queued_if : Answer → Session → Txn → Step
-queued_if (Queued seq) s txn =
+-- Only a transaction that is given a number waits. Want of memory is no outcome.
+abbrev pub queued_if : Outcome → Session → Txn → Step
+queued_if (Ok seq) s txn =
     record { session = record s { waiting = s.waiting ++ txn ∷ []; last = seq }; answers = Queued seq ∷ []; queued = txn.ops ∷ [] }
-queued_if answer s txn = answering s answer
+queued_if (Err (queue.Txn op why)) s txn = answering s (RefusedOp op why)
+queued_if (Err (queue.NotBuilt op)) s txn = answering s NotBuilt
+queued_if (Err (queue.TooLarge need size)) s txn = answering s (TooLarge need size)
+queued_if (Err queue.QueueFull) s txn = answering s QueueFull
+queued_if (Err queue.NumbersSpent) s txn = answering s NumbersSpent
+queued_if (Err queue.Memory) s txn = silent s
+
+-- what becomes of a transaction behind all that is queued
+abbrev pub outcome_in : Session → Txn → Outcome
+outcome_in s txn = outcome (colls_queued s) s.size (length s.waiting) s.last txn
 
 abbrev pub queue_step : Session → Txn → Step
-queue_step s txn = queued_if (queue_answer s txn) s txn
+queue_step s txn = queued_if (outcome_in s txn) s txn
 
 abbrev pub txn_of : List Op → Txn
 txn_of ops = record { ops = ops }
@@ -113,7 +106,7 @@ end_step (Some ops) s = queue_step (record s { opened = None }) (txn_of ops)
 
 abbrev pub after_drain : Session → Session
 after_drain s =
-    record s { objects = fold_ops s.objects (waiting_ops s); waiting = []; acked = s.last; used = s.used + needs_of s.waiting }
+    record s { objects = fold_ops s.objects (waiting_ops s); waiting = []; acked = s.last }
 
 -- readings
 

@@ -1,19 +1,18 @@
 -- What lines write to the journal, and what waits behind them.
 use Rattle.std.proofs.Common.{◌≡◌, List, [], ◌∷◌, ◌++◌, length, refl, sym, ◌∙◌, ap, append_assoc}
 use mathlib.Core.List.{append-nil}
-use Rattle.std.specs.Prelude.{Option, None, Some}
+use Rattle.std.specs.Prelude.{Option, None, Some, Ok, Err}
 use Rattle.std.proofs.lemmas.List.{map-append, length-map}
 use Rattle.fs_model.specs.declared.op.Op.{Op}
 use Rattle.fs_model.specs.declared.op.Txn.{Txn}
-use Rattle.fs_script.specs.declared.answer.Answer.{Answer}
-use Rattle.fs_script.specs.declared.answer.Answer.TheVariants as answered
+use Rattle.queue_rules.specs.declared.fault.QueueFault.TheVariants as queue
+use Rattle.queue_rules.specs.Outcome.{Outcome}
 use Rattle.fs_script.specs.declared.statement.Line.{Line}
 use Rattle.fs_script.specs.declared.statement.Statement.{Statement}
 use Rattle.fs_script.specs.declared.statement.Statement.TheVariants.{Do, End, Drain}
-use Rattle.fs_session.specs.Answers.{Session, Step, step, run_lines, session_after, queued_by, queue_answer, queued_if, op_step, end_step, txn_of}
+use Rattle.fs_session.specs.Answers.{Session, Step, step, run_lines, session_after, queued_by, outcome_in, queued_if, op_step, end_step, txn_of}
 use Rattle.fs_session.proofs.Sessions.{run_lines-append}
-use Rattle.journal_store.specs.Kept.{ops_of}
-use Rattle.script_store.specs.Script.{OpLists, drained_in}
+use Rattle.script_store.specs.Script.{OpLists, ops_of, drained_in}
 
 -- one line more
 
@@ -31,17 +30,22 @@ one-queued s done line =
 abbrev pub IsSplit : Session → List Line → OpLists → Type 0
 IsSplit s lines drained = queued_by s lines ≡ drained ++ ops_of (session_after s lines).waiting
 
-queued-split : (s : Session) (txn : Txn) (a : Answer) → ops_of s.waiting ++ (queued_if a s txn).queued ≡ ops_of (queued_if a s txn).session.waiting
-queued-split s txn (answered.Queued seq) = sym (map-append (λ (t : Txn). t.ops) s.waiting (txn ∷ []))
-queued-split s txn _ = append-nil (ops_of s.waiting)
+queued-split : (s : Session) (txn : Txn) (o : Outcome) → ops_of s.waiting ++ (queued_if o s txn).queued ≡ ops_of (queued_if o s txn).session.waiting
+queued-split s txn (Ok seq) = sym (map-append (λ (t : Txn). t.ops) s.waiting (txn ∷ []))
+queued-split s txn (Err (queue.Txn op why)) = append-nil (ops_of s.waiting)
+queued-split s txn (Err (queue.NotBuilt op)) = append-nil (ops_of s.waiting)
+queued-split s txn (Err (queue.TooLarge need size)) = append-nil (ops_of s.waiting)
+queued-split s txn (Err queue.QueueFull) = append-nil (ops_of s.waiting)
+queued-split s txn (Err queue.NumbersSpent) = append-nil (ops_of s.waiting)
+queued-split s txn (Err queue.Memory) = append-nil (ops_of s.waiting)
 
 op-split : (opened : Option (List Op)) (s : Session) (op : Op) → ops_of s.waiting ++ (op_step opened s op).queued ≡ ops_of (op_step opened s op).session.waiting
-op-split None s op = queued-split s (txn_of (op ∷ [])) (queue_answer s (txn_of (op ∷ [])))
+op-split None s op = queued-split s (txn_of (op ∷ [])) (outcome_in s (txn_of (op ∷ [])))
 op-split (Some ops) s op = append-nil (ops_of s.waiting)
 
 end-split : (opened : Option (List Op)) (s : Session) → ops_of s.waiting ++ (end_step opened s).queued ≡ ops_of (end_step opened s).session.waiting
 end-split None s = append-nil (ops_of s.waiting)
-end-split (Some ops) s = let t : Session = record s { opened = None } in queued-split t (txn_of ops) (queue_answer t (txn_of ops))
+end-split (Some ops) s = let t : Session = record s { opened = None } in queued-split t (txn_of ops) (outcome_in t (txn_of ops))
 
 step-split : (s : Session) (st : Statement) → ops_of s.waiting ++ (step s st).queued ≡ drained_in s st ++ ops_of (step s st).session.waiting
 unfolding step

@@ -1,26 +1,31 @@
 //! The store, and one statement after another.
-ghost use Rattle.std.specs.Prelude.{◌≡◌, ◌≤◌, [], ◌∷◌, ◌++◌, IfOk, OnErr, IsErrOf};
-ghost use Rattle.std.specs.Option.{option_copied, option_to_list};
-ghost use Rattle.fs_model.specs.Objects.{look};
-ghost use Rattle.fs_model.specs.Listing.{listing};
-ghost use Rattle.txn_journal.specs.History.{History};
-ghost use Rattle.fs_session.specs.Answers.{step as step_of, op_step, end_step, queue_step, bytes_answer, size_answer, attrs_answer, omap_answer, page_answer, cursor_oid};
-ghost use Rattle.journal_store.specs.Underneath.{DeviceFails};
-ghost use Rattle.script_store.specs.Script.{script_on, closed, IsAnswerOf, IsWork};
-ghost use Rattle.script_store.specs.Held.{HoldsOn, OfHeld, with_drained, LeavesSome};
+ghost use Rattle.std.specs.Prelude.{◌≡◌, ◌≢◌, ◌≤◌, true, false, [], ◌∷◌, Err, IfOk, IfErr, OnErr, IsErrOf};
+ghost use Rattle.std.specs.Option.{option_to_list};
+ghost use Rattle.fault_count.specs.Counted.{Counted};
+ghost use Rattle.tree_api.specs.Tree.{Path};
+ghost use Rattle.tree_api.specs.Disk.{Still};
+ghost use Rattle.store_history.specs.History.{History};
+ghost use Rattle.fs_session.specs.Answers.{step as step_of};
+ghost use Rattle.file_store.specs.Store.{Works, IsItsTree, IsItsDevice, IsDrained};
+ghost use Rattle.file_store.specs.Holds.{Holds, Reads, Waits, with_waiting};
+ghost use Rattle.script_store.specs.Script.{session_on, IsWork, is_reading};
+ghost use Rattle.script_store.specs.Held.{HoldsOn, with_drained, with_queue, LeavesSome, IsSame};
 
+use crate::fault::{StepFault, of_reading, of_turn};
+use crate::queueing::work;
+use crate::readings::{ask, reads_tree};
 use dev_api::Device;
-use fs_model::{Op, OpList, Txn};
-use fs_names::{Coll, Oid};
-use fs_script::{Answer, Cursor, Statement};
-use journal_store::{DrainFault, JournalStore, QueueFault};
-use std::alloc::{AllocError, Global};
-use txn_journal::holds_law;
+use file_store::FileStore;
+use fs_model::OpList;
+use fs_script::{Answer, Statement};
+use std::alloc::Global;
+use store_history::journal_law;
+use tree_api::FileTree;
 
 /// A store as a script works on it.
 #[derive(Drop)]
 pub struct ScriptStore {
-    pub store: JournalStore,
+    pub store: FileStore,
     /// The operations since a `begin` that has no `end` yet.
     pub opened: Option<OpList>,
 }
@@ -32,176 +37,29 @@ pub struct Stepped {
     pub answer: Option<Answer>,
 }
 
-// What is answered to a transaction that was to be queued.
-fn queue_answer(queued: Result<u64, QueueFault>) -> Result<Answer, AllocError>
-    ensures { IfOk result (IsAnswerOf queued) }
+// Answers a statement that reads the tree.
+fn read<T: FileTree>(
+    store: ScriptStore,
+    statement: Statement,
+    tree: &mut T,
+) -> Result<Stepped, StepFault>
+    requires works { Works store.store }
+    requires reading { is_reading statement ≡ true }
+    requires tree { IsItsTree store.store (T.tells tree.old) (T.disk tree.old) }
+    ensures answer { T.tells tree.new → (h : History) → Reads h store.store (T.disk tree.old)
+        → IfOk result (λ stepped. option_to_list stepped.answer ≡ (step_of (session_on h store) statement).answers) }
+    ensures same { IfOk result (λ stepped. stepped.store ≡ store) }
+    ensures tree { IsItsTree store.store (T.tells tree.new) (T.disk tree.new) }
+    ensures still { T.tells tree.new → Still (T.disk tree.old) (T.disk tree.new) }
+    ensures undamaged { T.tells tree.new → (path : Path) → result ≢ Err (StepFault.Damaged path) }
+    ensures told { T.tells tree.new → T.tells tree.old }
+    ensures cause { IsErrOf result StepFault.Tree → Counted (T.disk tree.old).faults (T.disk tree.new).faults }
+    ensures of_tree { result ≢ Err StepFault.Device }
+    ensures faults { (T.disk tree.old).faults ≤ (T.disk tree.new).faults }
 {
-    match queued {
-        Ok(seq) => Ok(Answer::Queued { seq }),
-        Err(QueueFault::Txn { op, why }) => Ok(Answer::RefusedOp { op, why }),
-        Err(QueueFault::TooLarge { need, size }) => Ok(Answer::TooLarge { need, size }),
-        Err(QueueFault::RingFull { need, free }) => Ok(Answer::RingFull { need, free }),
-        Err(QueueFault::QueueFull) => Ok(Answer::QueueFull),
-        Err(QueueFault::NumbersSpent) => Ok(Answer::NumbersSpent),
-        Err(QueueFault::Memory) => Err(AllocError),
-    }
-}
-
-// Queues a transaction; none is open then.
-fn queue(store: JournalStore, txn: Txn) -> Result<Stepped, AllocError>
-    ensures answer { IfOk result (λ stepped. option_to_list stepped.answer ≡ (queue_step (closed store.session) txn).answers) }
-    ensures after { IfOk result (λ stepped. (script_on stepped.store).session ≡ (queue_step (closed store.session) txn).session) }
-    ensures ring { IfOk result (λ stepped. stepped.store.store.ring ≡ store.ring) }
-{
-    let mut store = store;
-    let queued = store.queue(txn);
-    let answer = queue_answer(queued)?;
-    Ok(Stepped {
-        store: ScriptStore {
-            store,
-            opened: None,
-        },
-        answer: Some(answer),
-    })
-}
-
-// Operations with one more.
-fn with_op(ops: OpList, op: Op) -> Result<OpList, AllocError>
-    ensures { IfOk result (λ list. list ≡ ops ++ op ∷ []) }
-{
-    let mut ops = ops.into_vec();
-    ops.push(op)?;
-    Ok(OpList::from_vec(ops))
-}
-
-// Does an operation: one of the open transaction, or a transaction of its own.
-fn operate(alloc: Global, store: ScriptStore, op: Op) -> Result<Stepped, AllocError>
-    ensures answer { IfOk result (λ stepped. option_to_list stepped.answer ≡ (op_step store.opened (script_on store).session op).answers) }
-    ensures after { IfOk result (λ stepped. (script_on stepped.store).session ≡ (op_step store.opened (script_on store).session op).session) }
-    ensures ring { IfOk result (λ stepped. stepped.store.store.ring ≡ store.store.ring) }
-{
-    let ScriptStore { store, opened } = store;
-    let Some(ops) = opened else {
-        let ops = with_op(OpList::from_vec(Vec::new(alloc)), op)?;
-        return queue(store, Txn { ops });
-    };
-    let ops = with_op(ops, op)?;
-    Ok(Stepped {
-        store: ScriptStore {
-            store,
-            opened: Some(ops),
-        },
-        answer: None,
-    })
-}
-
-// Queues the open transaction, if there is one.
-fn finish(store: ScriptStore) -> Result<Stepped, AllocError>
-    ensures answer { IfOk result (λ stepped. option_to_list stepped.answer ≡ (end_step store.opened (script_on store).session).answers) }
-    ensures after { IfOk result (λ stepped. (script_on stepped.store).session ≡ (end_step store.opened (script_on store).session).session) }
-    ensures ring { IfOk result (λ stepped. stepped.store.store.ring ≡ store.store.ring) }
-{
-    let ScriptStore { store, opened } = store;
-    let Some(ops) = opened else {
-        return Ok(Stepped {
-            store: ScriptStore {
-                store,
-                opened: None,
-            },
-            answer: None,
-        });
-    };
-    queue(store, Txn { ops })
-}
-
-fn read(store: &JournalStore, c: &Coll, o: &Oid, at: u64, len: u64) -> Result<Answer, AllocError>
-    ensures { IfOk result (λ answer. answer ≡ bytes_answer (look store.now.session.objects c.now o.now) at len) }
-{
-    match store.read(c, o, at, len)? {
-        None => Ok(Answer::Missing),
-        Some(bytes) => Ok(Answer::Bytes(bytes)),
-    }
-}
-
-fn stat(store: &JournalStore, c: &Coll, o: &Oid) -> Answer
-    ensures { result ≡ size_answer (look store.now.session.objects c.now o.now) }
-{
-    match store.stat(c, o) {
-        None => Answer::Missing,
-        Some(size) => Answer::Size(size),
-    }
-}
-
-fn attrs(store: &JournalStore, c: &Coll, o: &Oid) -> Result<Answer, AllocError>
-    ensures { IfOk result (λ answer. answer ≡ attrs_answer (look store.now.session.objects c.now o.now)) }
-{
-    match store.attrs(c, o)? {
-        None => Ok(Answer::Missing),
-        Some(pairs) => Ok(Answer::Attrs(pairs)),
-    }
-}
-
-fn omap(store: &JournalStore, c: &Coll, o: &Oid) -> Result<Answer, AllocError>
-    ensures { IfOk result (λ answer. answer ≡ omap_answer (look store.now.session.objects c.now o.now)) }
-{
-    match store.omap(c, o)? {
-        None => Ok(Answer::Missing),
-        Some((header, pairs)) => Ok(Answer::Omap { header, pairs }),
-    }
-}
-
-// The object at which a listing begins.
-fn first_of(cursor: &Cursor) -> Option<&Oid>
-    ensures { option_copied result ≡ cursor_oid cursor.now }
-{
-    match cursor {
-        Cursor::Start => None,
-        Cursor::At(oid) => Some(oid),
-    }
-}
-
-fn list(store: &JournalStore, c: &Coll, cursor: &Cursor, max: u32) -> Result<Answer, AllocError>
-    ensures { IfOk result (λ answer. answer ≡ page_answer (listing store.now.session.objects c.now (cursor_oid cursor.now) max)) }
-{
-    match store.list(c, first_of(cursor), max)? {
-        None => Ok(Answer::Missing),
-        Some(page) => Ok(Answer::Listed {
-            oids: page.oids,
-            next: page.next,
-        }),
-    }
-}
-
-// Does what a statement other than a drain says.
-#[tactic(auto, unfolding(fs_session::specs::Answers::step))]
-fn work(alloc: Global, store: ScriptStore, statement: Statement) -> Result<Stepped, AllocError>
-    requires { IsWork statement }
-    ensures answer { IfOk result (λ stepped. option_to_list stepped.answer ≡ (step_of (script_on store).session statement).answers) }
-    ensures after { IfOk result (λ stepped. (script_on stepped.store).session ≡ (step_of (script_on store).session statement).session) }
-    ensures ring { IfOk result (λ stepped. stepped.store.store.ring ≡ store.store.ring) }
-{
-    let answer = match statement {
-        Statement::Do(op) => return operate(alloc, store, op),
-        Statement::End => return finish(store),
-        Statement::Begin => {
-            return Ok(Stepped {
-                store: ScriptStore {
-                    store: store.store,
-                    opened: Some(OpList::from_vec(Vec::new(alloc))),
-                },
-                answer: None,
-            });
-        }
-        Statement::Read { c, o, at, len } => read(&store.store, &c, &o, at, len)?,
-        Statement::Stat { c, o } => stat(&store.store, &c, &o),
-        Statement::Attrs { c, o } => attrs(&store.store, &c, &o)?,
-        Statement::Omap { c, o } => omap(&store.store, &c, &o)?,
-        Statement::List { c, cursor, max } => list(&store.store, &c, &cursor, max)?,
-        Statement::Colls => Answer::Colls(store.store.colls()?),
-        Statement::Acked => Answer::Acked {
-            acked: store.store.acked(),
-        },
-        Statement::Drain => unreachable!(),
+    let answer = match ask(&store, statement, tree) {
+        Ok(answer) => answer,
+        Err(fault) => return Err(of_reading(fault)),
     };
     Ok(Stepped {
         store,
@@ -209,37 +67,119 @@ fn work(alloc: Global, store: ScriptStore, statement: Statement) -> Result<Stepp
     })
 }
 
+// Whether a statement drains the store.
+fn drains(statement: &Statement) -> bool
+    ensures yes { result ≡ true → statement.now ≡ Statement.Drain }
+    ensures no { result ≡ false → statement.now ≢ Statement.Drain }
+{
+    match statement {
+        Statement::Drain => true,
+        _ => false,
+    }
+}
+
+// A statement that is done with.
+fn discard(statement: Statement) {
+    let _ = statement;
+}
+
+// Drains the store.
+fn drain<T: FileTree, D: Device>(
+    store: ScriptStore,
+    tree: &mut T,
+    dev: &mut D,
+) -> Result<Stepped, StepFault>
+    requires works { Works store.store }
+    requires tree { IsItsTree store.store (T.tells tree.old) (T.disk tree.old) }
+    requires device { IsItsDevice store.store (D.tells dev.old) (D.state dev.old) }
+    ensures answer { IfOk result (λ stepped. option_to_list stepped.answer ≡ Answer.Drained store.store.queue.last store.store.queue.last ∷ []) }
+    ensures opened { IfOk result (λ stepped. stepped.store.opened ≡ store.opened) }
+    ensures drained { IfOk result (λ stepped. IsDrained store.store stepped.store.store) }
+    ensures holds { T.tells tree.new → D.tells dev.new → (h : History) → HoldsOn h store (T.disk tree.old) (D.state dev.old)
+        → IfOk result (λ stepped. Holds (with_waiting h store.store) stepped.store.store (T.disk tree.new) (D.state dev.new).disk) }
+    ensures left { T.tells tree.new → D.tells dev.new → (h : History) → HoldsOn h store (T.disk tree.old) (D.state dev.old)
+        → OnErr result (LeavesSome h store (T.disk tree.new) (D.state dev.new)) }
+    ensures tree { IfOk result (λ stepped. IsItsTree stepped.store.store (T.tells tree.new) (T.disk tree.new)) }
+    ensures device { IfOk result (λ stepped. IsItsDevice stepped.store.store (D.tells dev.new) (D.state dev.new)) }
+    ensures undamaged { T.tells tree.new → (path : Path) → result ≢ Err (StepFault.Damaged path) }
+    ensures told { T.tells tree.new → T.tells tree.old }
+    ensures honest { D.tells dev.new → D.tells dev.old }
+    ensures extent { (D.state dev.new).size ≡ (D.state dev.old).size }
+    ensures tree_cause { IsErrOf result StepFault.Tree → Counted (T.disk tree.old).faults (T.disk tree.new).faults }
+    ensures device_cause { IsErrOf result StepFault.Device → Counted (D.state dev.old).faults (D.state dev.new).faults }
+    ensures tree_faults { (T.disk tree.old).faults ≤ (T.disk tree.new).faults }
+    ensures device_faults { (D.state dev.old).faults ≤ (D.state dev.new).faults }
+{
+    let ScriptStore { store, opened } = store;
+    let mut store = store;
+    let seq = match store.drain(tree, dev) {
+        Ok(seq) => seq,
+        Err(fault) => return Err(of_turn(fault)),
+    };
+    Ok(Stepped {
+        store: ScriptStore { store, opened },
+        answer: Some(Answer::Drained { acked: seq, seq }),
+    })
+}
+
+// Does a statement that touches neither tree nor device.
+fn act(alloc: Global, store: ScriptStore, statement: Statement) -> Result<Stepped, StepFault>
+    requires works { Works store.store }
+    requires work { IsWork statement }
+    requires no_reading { is_reading statement ≡ false }
+    ensures answer { (h : History) → Waits h store.store
+        → IfOk result (λ stepped. option_to_list stepped.answer ≡ (step_of (session_on h store) statement).answers) }
+    ensures after { (h : History) → Waits h store.store
+        → IfOk result (λ stepped. session_on h stepped.store ≡ (step_of (session_on h store) statement).session) }
+    ensures waits { (h : History) → Waits h store.store → IfOk result (λ stepped. Waits h stepped.store.store) }
+    ensures rest { IfOk result (λ stepped. stepped.store.store ≡ with_queue store.store stepped.store.store.queue) }
+    ensures memory { IfErr result (λ fault. fault ≡ StepFault.Memory) }
+{
+    match work(alloc, store, statement) {
+        Ok(stepped) => Ok(stepped),
+        Err(_) => Err(StepFault::Memory),
+    }
+}
+
 /// Does what a statement says, and answers it. What was acknowledged before is never lost, whatever becomes of it.
-#[tactic(auto, unfolding(fs_session::specs::Answers::step))]
-pub fn step<D: Device>(
+pub fn step<T: FileTree, D: Device>(
     alloc: Global,
     store: ScriptStore,
     statement: Statement,
+    tree: &mut T,
     dev: &mut D,
-) -> Result<Stepped, DrainFault>
-    requires extent { (D.state dev.old).size ≡ (script_on store).ring.head.size }
-    requires held { D.tells dev.old → (h : History) × HoldsOn h store (D.state dev.old) }
-    ensures answer { IfOk result (λ stepped. option_to_list stepped.answer ≡ (step_of (script_on store).session statement).answers) }
-    ensures after { IfOk result (λ stepped. (script_on stepped.store).session ≡ (step_of (script_on store).session statement).session) }
-    ensures holds { D.tells dev.new → OfHeld store (D.state dev.old) (λ h. IfOk result (λ s. HoldsOn (with_drained h store statement) s.store (D.state dev.new))) }
-    ensures left { D.tells dev.new → OfHeld store (D.state dev.old) (λ h. OnErr result (LeavesSome h store (D.state dev.new))) }
-    ensures size { IfOk result (λ stepped. (script_on stepped.store).ring.head.size ≡ (script_on store).ring.head.size) }
+) -> Result<Stepped, StepFault>
+    requires works { Works store.store }
+    requires tree { IsItsTree store.store (T.tells tree.old) (T.disk tree.old) }
+    requires device { IsItsDevice store.store (D.tells dev.old) (D.state dev.old) }
+    ensures answer { T.tells tree.new → D.tells dev.new → (h : History) → HoldsOn h store (T.disk tree.old) (D.state dev.old)
+        → IfOk result (λ stepped. option_to_list stepped.answer ≡ (step_of (session_on h store) statement).answers) }
+    ensures after { T.tells tree.new → D.tells dev.new → (h : History) → HoldsOn h store (T.disk tree.old) (D.state dev.old)
+        → IfOk result (λ stepped. session_on (with_drained h store statement) stepped.store ≡ (step_of (session_on h store) statement).session) }
+    ensures holds { T.tells tree.new → D.tells dev.new → (h : History) → HoldsOn h store (T.disk tree.old) (D.state dev.old)
+        → IfOk result (λ stepped. HoldsOn (with_drained h store statement) stepped.store (T.disk tree.new) (D.state dev.new)) }
+    ensures left { T.tells tree.new → D.tells dev.new → (h : History) → HoldsOn h store (T.disk tree.old) (D.state dev.old)
+        → OnErr result (LeavesSome h store (T.disk tree.new) (D.state dev.new)) }
+    ensures works { IfOk result (λ stepped. Works stepped.store.store) }
+    ensures same { IfOk result (λ stepped. IsSame store.store stepped.store.store) }
+    ensures tree { IfOk result (λ stepped. IsItsTree stepped.store.store (T.tells tree.new) (T.disk tree.new)) }
+    ensures device { IfOk result (λ stepped. IsItsDevice stepped.store.store (D.tells dev.new) (D.state dev.new)) }
+    ensures undamaged { T.tells tree.new → (path : Path) → result ≢ Err (StepFault.Damaged path) }
+    ensures told { T.tells tree.new → T.tells tree.old }
     ensures honest { D.tells dev.new → D.tells dev.old }
     ensures extent { (D.state dev.new).size ≡ (D.state dev.old).size }
-    ensures faults { (D.state dev.old).faults ≤ (D.state dev.new).faults }
-    ensures cause { IsErrOf result DrainFault.Device → DeviceFails (D.state dev.old) (D.state dev.new) }
+    ensures tree_cause { IsErrOf result StepFault.Tree → Counted (T.disk tree.old).faults (T.disk tree.new).faults }
+    ensures device_cause { IsErrOf result StepFault.Device → Counted (D.state dev.old).faults (D.state dev.new).faults }
+    ensures tree_faults { (T.disk tree.old).faults ≤ (T.disk tree.new).faults }
+    ensures device_faults { (D.state dev.old).faults ≤ (D.state dev.new).faults }
 {
-    holds_law();
-    match statement {
-        Statement::Drain => {
-            let ScriptStore { store, opened } = store;
-            let store = store.drain(dev)?;
-            let seq = store.last();
-            Ok(Stepped {
-                store: ScriptStore { store, opened },
-                answer: Some(Answer::Drained { acked: seq, seq }),
-            })
-        }
-        statement => Ok(work(alloc, store, statement)?),
+    journal_law();
+    if reads_tree(&statement) {
+        return read(store, statement, tree);
     }
+    if drains(&statement) {
+        discard(statement);
+        return drain(store, tree, dev);
+    }
+    act(alloc, store, statement)
 }

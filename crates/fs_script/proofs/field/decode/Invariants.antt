@@ -1,4 +1,4 @@
-use Rattle.std.proofs.Common.{◌≡◌, length}
+use Rattle.std.proofs.Common.{length}
 use Rattle.std.specs.Prelude.{vec_len, vec_capacity}
 use Rattle.fs_script.proofs.Digits.{Decoded}
 use Rattle.fs_script.proofs.field.decode.Given as goal

@@ -1,0 +1,19 @@
+-- The text of a path, step by step.
+use Rattle.std.proofs.Common.{◌≡◌, ℕ, ◌+◌, ◌<◌, List, [], ◌∷◌, ◌++◌, length, take, get_or, codes, refl, sym, ◌∙◌, ap, Some, append_assoc}
+use mathlib.Core.List.{append-nil}
+use Rattle.std.specs.List.{flat_map, slice_get}
+use Rattle.std.proofs.lemmas.List.{take_more}
+use Rattle.std.proofs.lemmas.List.Concat.{flat_map-append}
+use Rattle.std.proofs.lemmas.Option.{get_or_from_slice_get}
+use Rattle.tree_api.specs.Tree.{Path}
+use Rattle.filestore_cli.specs.Stop.{slashed}
+
+pub one_more : (path : Path) (i : ℕ) (step a b c : List ℕ) → i < length path → slice_get path i ≡ Some step → a ≡ slashed (take i path) → b ≡ a ++ 47 ∷ [] → c ≡ b ++ step
+    → c ≡ slashed (take (i + 1) path)
+one_more path i step a b c small here before slash all =
+    let f : List ℕ → List ℕ = λ s. codes "/" ++ s in
+    let next : take (i + 1) path ≡ take i path ++ step ∷ [] = take_more path i [] small ∙ ap (λ (s : List ℕ). take i path ++ s ∷ []) (get_or_from_slice_get path i step [] here) in
+    all ∙ ap (λ (l : List ℕ). l ++ step) (slash ∙ ap (λ (l : List ℕ). l ++ 47 ∷ []) before)
+    ∙ append_assoc (slashed (take i path)) (47 ∷ []) step
+    ∙ ap (λ (l : List ℕ). slashed (take i path) ++ l) (sym (append-nil (47 ∷ step)))
+    ∙ sym (ap slashed next ∙ flat_map-append f (take i path) (step ∷ []))
