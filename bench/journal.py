@@ -65,8 +65,8 @@ def main():
             for _ in range(ROUNDS):
                 path = os.path.join(folder, "journal")
                 blank(path, size)
-                seconds([PROGRAM, "store", path, "run", "new"], os.devnull)
-                times["journal"].append(seconds([PROGRAM, "store", path, "run"], source))
+                seconds([PROGRAM, path + ".store", path, "run", "new"], os.devnull)
+                times["journal"].append(seconds([PROGRAM, path + ".store", path, "run"], source))
                 blank(path, size)
                 times["plain"].append(seconds([plain, path, str(count)], os.devnull))
                 os.remove(path)

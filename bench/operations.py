@@ -1,20 +1,21 @@
 #!/usr/bin/env python3
-"""Times 100,000 operations of each kind through the program, on collections of 1,000, 10,000 and 100,000 objects.
+"""Times 10,000 operations of each kind that is built, through the program, on collections of 100, 1,000 and 10,000 objects.
 
 Operations stand 1,000 to a transaction, each drained, on a new store. What the same script takes without them is taken off, so
 that the figures are of parsing, checking, spelling, journalling and applying the operations alone. Then pages of 100 names and
-other readings, and 65,536 omap pairs that are set at once and one by one. Prints microseconds for one, least of three rounds.
+other readings. Prints processor microseconds for one, least of three rounds.
 Build the program first: `make run`. A word names the kinds to measure; none measures all.
 """
 import os
+import shutil
 import subprocess
 import sys
 import tempfile
 
 ROOT = os.path.dirname(os.path.dirname(os.path.abspath(__file__)))
 PROGRAM = os.path.join(ROOT, "crates", "filestore_cli", "out", "filestore_cli")
-SIZES = (1_000, 10_000, 100_000)
-COUNT = 100_000
+SIZES = (100, 1_000, 10_000)
+COUNT = 10_000
 ROUNDS = 3
 JOURNAL = 1 << 28
 
@@ -29,9 +30,8 @@ def spare(number):
 
 
 def both(number, size):
-    """An object and a spare one, which change places each round, so that a move finds its source."""
-    names = (place(number % size), spare(number % size))
-    return names if number // size % 2 == 0 else names[::-1]
+    """An object, and one that isn't there."""
+    return place(number % size), spare(number % size)
 
 
 # Each kind: what is done to each object before, and the number-th operation on an object.
@@ -44,15 +44,8 @@ KINDS = {
     "setattr": (None, lambda i, o, s: f"setattr {o} x5f{i % 8:02x} x0102"),
     "rmattr": ("setattr {o} x5f x01", lambda i, o, s: f"rmattr {o} x5f"),
     "rmattrs": ("setattr {o} x5f x01", lambda i, o, s: f"rmattrs {o}"),
-    "clone": ("write {o} 0 x5ac35ac3", lambda i, o, s: f"clone {o} {s}"),
-    "clonerange": ("write {o} 0 x5ac35ac3", lambda i, o, s: f"clonerange {o} {s} 0 4 8"),
-    "move": ("write {o} 0 x5ac35ac3", lambda i, o, s: f"move {o} {s}"),
     "mkcoll": (None, lambda i, o, s: f"mkcoll 2.{i:x}_head"),
     "rmcoll": (None, lambda i, o, s: f"rmcoll 2.{i:x}_head"),
-    "omapclear": ("omapset {o} x01 x31 x01", lambda i, o, s: f"omapclear {o}"),
-    "omapset": (None, lambda i, o, s: f"omapset {o} x01 x31{i % 8:02x} x0102"),
-    "omaprm": ("omapset {o} x01 x31 x01", lambda i, o, s: f"omaprm {o} x31"),
-    "omaprange": ("omapset {o} x01 x31 x01", lambda i, o, s: f"omaprange {o} x30 x32"),
 }
 READINGS = {
     "page of 100 names": lambda o: f"list 1.0_head {o.split('/')[1]} 100",
@@ -62,8 +55,8 @@ READINGS = {
     "omap": lambda o: f"omap {o}",
 }
 # how many of each reading: so many that the making of the objects is small beside them
-PAGES = 20_000
-READS = 200_000
+PAGES = 200
+READS = 20_000
 
 
 def transactions(operations):
@@ -87,6 +80,7 @@ def seconds(folder, lines):
     script = os.path.join(folder, "script")
     with open(script, "w") as out:
         out.write("\n".join(lines) + "\n")
+    shutil.rmtree(os.path.join(folder, "store"), ignore_errors=True)
     with open(os.path.join(folder, "journal"), "wb") as out:
         out.truncate(JOURNAL)
     with open(script) as source, open(os.path.join(folder, "answers"), "w") as sink:
@@ -128,18 +122,6 @@ def reading_times(folder, reading):
     return times
 
 
-def pairs_at_once(folder):
-    setup = fill(1, None)
-    pairs = " ".join(f"x{number:08x} x0102" for number in range(65_536))
-    return each(folder, setup, [f"omapset {place(0)} - {pairs}", "drain"], 65_536)
-
-
-def pairs_one_by_one(folder):
-    setup = fill(1, None)
-    lines = transactions([f"omapset {place(0)} - x{number:08x} x0102" for number in range(65_536)])
-    return each(folder, setup, lines, 65_536)
-
-
 def main():
     if not os.path.exists(PROGRAM):
         sys.exit(f"{PROGRAM} isn't built: run make run")
@@ -151,8 +133,6 @@ def main():
                 continue
             times = kind_times(folder, kind) if kind in KINDS else reading_times(folder, kind)
             print(f"{kind}: " + ", ".join(f"{time:.2f}" for time in times), flush=True)
-        if not wanted or "pairs" in wanted:
-            print(f"65,536 pairs at once: {pairs_at_once(folder):.2f} each; one by one: {pairs_one_by_one(folder):.2f} each")
 
 
 if __name__ == "__main__":

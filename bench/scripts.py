@@ -51,7 +51,7 @@ def main():
             size = os.path.getsize(path)
             with open(path) as source, open(os.devnull, "w") as sink:
                 start = time.monotonic()
-                child = subprocess.Popen([PROGRAM, "store", os.path.join(folder, f"journal{megabytes}"), "run", "new"], stdin=source, stdout=sink)
+                child = subprocess.Popen([PROGRAM, os.path.join(folder, f"store{megabytes}"), os.path.join(folder, f"journal{megabytes}"), "run", "new"], stdin=source, stdout=sink)
                 _, status, usage = os.wait4(child.pid, 0)
                 seconds = time.monotonic() - start
             if os.waitstatus_to_exitcode(status) != 0:
