@@ -1,11 +1,11 @@
 -- A store that was just made, and then mounted.
-use Rattle.std.proofs.Common.{◌≡◌, inl, ℕ, ◌-◌, List, [], ◌∷◌, length, refl, sym, ◌∙◌, ap, subst, arith}
+use Rattle.std.proofs.Common.{◌≡◌, inl, ℕ, ◌+◌, ◌-◌, List, [], ◌∷◌, drop, length, refl, sym, ◌∙◌, ap, subst, arith}
 use Rattle.std.specs.Prelude.{Result, Ok, Err, IfErr, IfOk, Some}
 use Rattle.std.specs.FinMap as fin
 use Rattle.tree_api.specs.Tree.{Tree}
 use Rattle.tree_api.specs.Disk.{Everywhere, Sound}
 use Rattle.dev_api.specs.Disk.{Disk, IsImage}
-use Rattle.ring_frame.specs.Frame.{Entry}
+use Rattle.ring_frame.specs.Frame.{Entry, size_of}
 use Rattle.ring_images.specs.Readable.{Ring, NoChance}
 use Rattle.ring_images.specs.Held.{IsSound, ReadsSound, readable, ring_of}
 use Rattle.ring_images.specs.Turned.{turned}
@@ -28,7 +28,7 @@ use Rattle.filestore_cli.proofs.Starts.{stands_first}
 
 no_chance : (ring : Ring) (offset : ℕ) (xs ys : List ℕ) (es : List Entry) → NoChance ring offset xs ys xs es
 no_chance ring offset xs ys [] = λ e is. inl is
-no_chance ring offset xs ys (x ∷ es) = (λ e is. inl is, no_chance ring _ _ _ es)
+no_chance ring offset xs ys (x ∷ es) = (λ e is. inl is, no_chance ring (offset + size_of x) (drop (size_of x) xs) (drop (size_of x) ys) es)
 
 sound_stable : (d : Disk) → IsSound d d.stable
 sound_stable d = record {

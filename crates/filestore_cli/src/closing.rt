@@ -13,7 +13,11 @@ use script_store::ScriptStore;
 use tree_api::FileTree;
 
 /// Drains what waits, and then leaves nothing to be done again.
-pub fn close<T: FileTree, D: Device>(store: ScriptStore, tree: &mut T, dev: &mut D) -> Result<(), Stop>
+pub fn close<T: FileTree, D: Device>(
+    store: ScriptStore,
+    tree: &mut T,
+    dev: &mut D,
+) -> Result<(), Stop>
     requires works { Works store.store }
     requires tree { IsItsTree store.store (T.tells tree.old) (T.disk tree.old) }
     requires device { IsItsDevice store.store (D.tells dev.old) (D.state dev.old) }

@@ -9,8 +9,6 @@ mod opening;
 mod run;
 mod status;
 mod stop;
-#[cfg(test)]
-mod tests;
 
 use command::read_command;
 use dev_edge::{EdgeFault, RealDevice};

@@ -18,7 +18,11 @@ use store_opening::mount;
 use tree_api::FileTree;
 
 // Mounts the store that is there.
-fn mount_store<T: FileTree, D: Device>(alloc: Global, tree: &mut T, dev: &mut D) -> Result<ScriptStore, Stop>
+fn mount_store<T: FileTree, D: Device>(
+    alloc: Global,
+    tree: &mut T,
+    dev: &mut D,
+) -> Result<ScriptStore, Stop>
     ensures keeps { (store_seen T.FileTree D.Device tree.old tree.new dev.old dev.new).told → KeepsStore Command.Run (store_seen T.FileTree D.Device tree.old tree.new dev.old dev.new) }
     ensures opens { (store_seen T.FileTree D.Device tree.old tree.new dev.old dev.new).told → IfOk result (λ store. Begun Command.Run (store_seen T.FileTree D.Device tree.old tree.new dev.old dev.new) (Opens store (store_seen T.FileTree D.Device tree.old tree.new dev.old dev.new).new)) }
     ensures works { IfOk result (λ store. Works store.store) }
@@ -90,7 +94,11 @@ fn make_with<T: FileTree, D: Device>(
 }
 
 // Makes a new store and mounts it.
-fn make_new<T: FileTree, D: Device>(alloc: Global, tree: &mut T, dev: &mut D) -> Result<ScriptStore, Stop>
+fn make_new<T: FileTree, D: Device>(
+    alloc: Global,
+    tree: &mut T,
+    dev: &mut D,
+) -> Result<ScriptStore, Stop>
     ensures opens { (store_seen T.FileTree D.Device tree.old tree.new dev.old dev.new).told → IfOk result (λ store. Begun Command.RunNew (store_seen T.FileTree D.Device tree.old tree.new dev.old dev.new) (Opens store (store_seen T.FileTree D.Device tree.old tree.new dev.old dev.new).new)) }
     ensures works { IfOk result (λ store. Works store.store) }
     ensures tree { IfOk result (λ store. IsItsTree store.store (T.tells tree.new) (T.disk tree.new)) }

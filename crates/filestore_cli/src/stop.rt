@@ -1,5 +1,5 @@
 //! How a run ends before all is done.
-ghost use Rattle.std.specs.Prelude.{◌≡◌, ◌≤◌, [], IfOk, OnErr};
+ghost use Rattle.std.specs.Prelude.{◌≡◌, ◌≤◌, [], IfOk, OnErr, string_bytes};
 ghost use Rattle.filestore_cli.specs.Seen.{sink_seen, EndsWith};
 ghost use Rattle.filestore_cli.specs.Stop.{slashed, damaged_line, mount_line, refused_line, refused_status, make_stop, mount_stop, step_stop, close_stop, Ended};
 
@@ -137,6 +137,13 @@ fn plain(alloc: Global, line: &str) -> Result<Blob, AllocError>
     Ok(Blob::from_vec(String::from_str(alloc, line)?.into_bytes()))
 }
 
+// The bytes of a line.
+fn blob(line: String) -> Blob
+    ensures { result ≡ string_bytes line }
+{
+    Blob::from_vec(line.into_bytes())
+}
+
 // The line that tells of two identities.
 fn print_fsids(alloc: Global, tree: &[u8], ring: &[u8]) -> Result<Blob, AllocError>
     ensures { IfOk result (λ text. text ≡ mount_line (MountFault.WrongFsid tree.now ring.now)) }
@@ -144,7 +151,15 @@ fn print_fsids(alloc: Global, tree: &[u8], ring: &[u8]) -> Result<Blob, AllocErr
     let tree = hex::encode(alloc, tree)?;
     let ring = hex::encode(alloc, ring)?;
     let line = format!(in alloc; "store: fsid {tree} {ring}\n")?;
-    Ok(Blob::from_vec(line.into_bytes()))
+    Ok(blob(line))
+}
+
+// The line that tells where the journal begins, and the committed number.
+fn print_gap(alloc: Global, start: u64, committed: u64) -> Result<Blob, AllocError>
+    ensures { IfOk result (λ text. text ≡ mount_line (MountFault.JournalGap start committed)) }
+{
+    let line = format!(in alloc; "store: journal gap {start} {committed}\n")?;
+    Ok(blob(line))
 }
 
 // The line that tells why a store wasn't mounted.
@@ -159,13 +174,14 @@ fn print_mount_fault(alloc: Global, fault: &MountFault) -> Result<Blob, AllocErr
         }
         MountFault::BadSettings => plain(alloc, "store: bad settings\n"),
         MountFault::NoHeader => plain(alloc, "store: no ring header\n"),
-        MountFault::WrongFsid { tree, ring } => print_fsids(alloc, tree.as_slice(), ring.as_slice()),
+        MountFault::WrongFsid { tree, ring } => print_fsids(
+            alloc,
+            tree.as_slice(),
+            ring.as_slice(),
+        ),
         MountFault::Spent => plain(alloc, "store: ring spent\n"),
         MountFault::BadSeq => plain(alloc, "store: bad number\n"),
-        MountFault::JournalGap { start, committed } => {
-            let line = format!(in alloc; "store: journal gap {start} {committed}\n")?;
-            Ok(Blob::from_vec(line.into_bytes()))
-        }
+        MountFault::JournalGap { start, committed } => print_gap(alloc, *start, *committed),
         MountFault::Damaged { path } => print_damaged(alloc, path),
         MountFault::BadEntry { seq } => {
             let line = format!(in alloc; "store: bad entry {seq}\n")?;

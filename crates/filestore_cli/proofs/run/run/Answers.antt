@@ -13,28 +13,28 @@ returns-in_default-clause-usage_line g c = λ one. (usage_ended _ _ c.end.ensure
 pub returns-in-Ok-clause-done : goal.returns-in-Ok-clause-done
 returns-in-Ok-clause-done g c = λ command is zero.
     let same : command ≡ c.in-Some.command = cc in
-    let w = turns (g.T.FileTree.tells c.run_command.new.tree × g.D.Device.tells c.run_command.new.device) (sides (g.T.FileTree.disk c.args.tree.now) (g.D.Device.state c.args.device.now)) (sides (g.T.FileTree.disk c.run_command.new.tree) (g.D.Device.state c.run_command.new.device)) in
+    let w = turns (g.T.FileTree.tells c.run_command.new.tree × g.D.Device.tells c.run_command.new.dev) (sides (g.T.FileTree.disk c.args.tree.now) (g.D.Device.state c.args.device.now)) (sides (g.T.FileTree.disk c.run_command.new.tree) (g.D.Device.state c.run_command.new.dev)) in
     let i = moves (g.S.Source.tells c.run_command.new.source) (g.S.Source.inflow c.args.source.now) (g.S.Source.inflow c.run_command.new.source) in
     let k = moves (g.K.Sink.tells c.run_command.new.sink) (g.K.Sink.out c.args.sink.now) (g.K.Sink.out c.run_command.new.sink) in
     subst (λ (x : Command). Answers x (on w i k)) (sym same) c.in-Ok.ensures.done
 
 pub returns-in-Err-clause-usage_line : goal.returns-in-Err-clause-usage_line
 returns-in-Err-clause-usage_line g c = λ one.
-    let w = turns (g.T.FileTree.tells c.run_command.new.tree × g.D.Device.tells c.run_command.new.device) (sides (g.T.FileTree.disk c.args.tree.now) (g.D.Device.state c.args.device.now)) (sides (g.T.FileTree.disk c.run_command.new.tree) (g.D.Device.state c.run_command.new.device)) in
+    let w = turns (g.T.FileTree.tells c.run_command.new.tree × g.D.Device.tells c.run_command.new.dev) (sides (g.T.FileTree.disk c.args.tree.now) (g.D.Device.state c.args.device.now)) (sides (g.T.FileTree.disk c.run_command.new.tree) (g.D.Device.state c.run_command.new.dev)) in
     let i = moves (g.S.Source.tells c.run_command.new.source) (g.S.Source.inflow c.args.source.now) (g.S.Source.inflow c.run_command.new.source) in
     let k = moves (g.K.Sink.tells c.run_command.new.sink) (g.K.Sink.out c.args.sink.now) (g.K.Sink.out c.run_command.new.sink) in
     absurd (not_usage w i k _ c.in-Err.stop _ 1 (omega arith) c.in-Err.ensures.cause c.end-in-Err.ensures.ends one)
 
 pub returns-in-Err-clause-untouched : goal.returns-in-Err-clause-untouched
 returns-in-Err-clause-untouched g c = λ one.
-    let w = turns (g.T.FileTree.tells c.run_command.new.tree × g.D.Device.tells c.run_command.new.device) (sides (g.T.FileTree.disk c.args.tree.now) (g.D.Device.state c.args.device.now)) (sides (g.T.FileTree.disk c.run_command.new.tree) (g.D.Device.state c.run_command.new.device)) in
+    let w = turns (g.T.FileTree.tells c.run_command.new.tree × g.D.Device.tells c.run_command.new.dev) (sides (g.T.FileTree.disk c.args.tree.now) (g.D.Device.state c.args.device.now)) (sides (g.T.FileTree.disk c.run_command.new.tree) (g.D.Device.state c.run_command.new.dev)) in
     let i = moves (g.S.Source.tells c.run_command.new.source) (g.S.Source.inflow c.args.source.now) (g.S.Source.inflow c.run_command.new.source) in
     let k = moves (g.K.Sink.tells c.run_command.new.sink) (g.K.Sink.out c.args.sink.now) (g.K.Sink.out c.run_command.new.sink) in
     absurd (not_usage w i k _ c.in-Err.stop _ 1 (omega arith) c.in-Err.ensures.cause c.end-in-Err.ensures.ends one)
 
 pub returns-in-Err-clause-done : goal.returns-in-Err-clause-done
 returns-in-Err-clause-done g c = λ command is zero.
-    let w = turns (g.T.FileTree.tells c.run_command.new.tree × g.D.Device.tells c.run_command.new.device) (sides (g.T.FileTree.disk c.args.tree.now) (g.D.Device.state c.args.device.now)) (sides (g.T.FileTree.disk c.run_command.new.tree) (g.D.Device.state c.run_command.new.device)) in
+    let w = turns (g.T.FileTree.tells c.run_command.new.tree × g.D.Device.tells c.run_command.new.dev) (sides (g.T.FileTree.disk c.args.tree.now) (g.D.Device.state c.args.device.now)) (sides (g.T.FileTree.disk c.run_command.new.tree) (g.D.Device.state c.run_command.new.dev)) in
     let i = moves (g.S.Source.tells c.run_command.new.source) (g.S.Source.inflow c.args.source.now) (g.S.Source.inflow c.run_command.new.source) in
     let k = moves (g.K.Sink.tells c.run_command.new.sink) (g.K.Sink.out c.args.sink.now) (g.K.Sink.out c.run_command.new.sink) in
     absurd (not_usage w i k _ c.in-Err.stop _ 0 (omega arith) c.in-Err.ensures.cause c.end-in-Err.ensures.ends zero)
@@ -42,7 +42,7 @@ returns-in-Err-clause-done g c = λ command is zero.
 pub returns-in-Err-clause-stopped : goal.returns-in-Err-clause-stopped
 returns-in-Err-clause-stopped g c = λ command is not.
     let same : command ≡ c.in-Some.command = cc in
-    let w = turns (g.T.FileTree.tells c.run_command.new.tree × g.D.Device.tells c.run_command.new.device) (sides (g.T.FileTree.disk c.args.tree.now) (g.D.Device.state c.args.device.now)) (sides (g.T.FileTree.disk c.run_command.new.tree) (g.D.Device.state c.run_command.new.device)) in
+    let w = turns (g.T.FileTree.tells c.run_command.new.tree × g.D.Device.tells c.run_command.new.dev) (sides (g.T.FileTree.disk c.args.tree.now) (g.D.Device.state c.args.device.now)) (sides (g.T.FileTree.disk c.run_command.new.tree) (g.D.Device.state c.run_command.new.dev)) in
     let i = moves (g.S.Source.tells c.run_command.new.source) (g.S.Source.inflow c.args.source.now) (g.S.Source.inflow c.run_command.new.source) in
     let k = moves (g.K.Sink.tells c.end-in-Err.new.sink) (g.K.Sink.out c.args.sink.now) (g.K.Sink.out c.end-in-Err.new.sink) in
     let all = ran c.in-Some.command w i _ _ _ _ _ c.end-in-Err.ensures.honest c.run_command.ensures.later c.end-in-Err.ensures.later c.in-Err.stop _ c.in-Err.ensures.stops c.in-Err.ensures.cause c.end-in-Err.ensures.ends in
@@ -51,8 +51,8 @@ returns-in-Err-clause-stopped g c = λ command is not.
 pub returns-in-Err-clause-complete : goal.returns-in-Err-clause-complete
 returns-in-Err-clause-complete g c = λ command is free.
     let same : command ≡ c.in-Some.command = cc in
-    let w = turns (g.T.FileTree.tells c.run_command.new.tree × g.D.Device.tells c.run_command.new.device) (sides (g.T.FileTree.disk c.args.tree.now) (g.D.Device.state c.args.device.now)) (sides (g.T.FileTree.disk c.run_command.new.tree) (g.D.Device.state c.run_command.new.device)) in
+    let w = turns (g.T.FileTree.tells c.run_command.new.tree × g.D.Device.tells c.run_command.new.dev) (sides (g.T.FileTree.disk c.args.tree.now) (g.D.Device.state c.args.device.now)) (sides (g.T.FileTree.disk c.run_command.new.tree) (g.D.Device.state c.run_command.new.dev)) in
     let i = moves (g.S.Source.tells c.run_command.new.source) (g.S.Source.inflow c.args.source.now) (g.S.Source.inflow c.run_command.new.source) in
     let k = moves (g.K.Sink.tells c.end-in-Err.new.sink) (g.K.Sink.out c.args.sink.now) (g.K.Sink.out c.end-in-Err.new.sink) in
     let could = subst (λ (x : Command). CanStart x w.old) same free.can in
-    inr (only_memory w i _ _ (g.K.Sink.out c.args.sink.now) (g.K.Sink.out c.run_command.new.sink) (g.K.Sink.out c.end-in-Err.new.sink) c.in-Err.stop _ c.end-in-Err.ensures.later (c.in-Err.ensures.free free.told free.heard could free.script free.said) c.in-Err.ensures.cause c.end-in-Err.ensures.ends free.read free.kept free.saved free.written)
+    inr (only_memory w i (g.K.Sink.tells c.run_command.new.sink) (g.K.Sink.tells c.end-in-Err.new.sink) (g.K.Sink.out c.args.sink.now) (g.K.Sink.out c.run_command.new.sink) (g.K.Sink.out c.end-in-Err.new.sink) c.in-Err.stop _ c.end-in-Err.ensures.later (c.in-Err.ensures.free free.told free.heard could free.script free.said) c.in-Err.ensures.cause c.end-in-Err.ensures.ends free.read free.kept free.saved free.written)
