@@ -139,7 +139,7 @@ def check(box, acks, what):
         return
     if status != 0:
         sys.exit(f"{what}: acknowledged up to {acks}, and the next run ends with {status}: {lines[-1:]}")
-    listed = None if lines == ["missing"] else sorted(lines[1:-1])
+    listed = None if lines == ["none"] else sorted(lines[1:-1])
     folder = os.path.join(box.root, "tree", "current", COLLECTION)
     there = {name: (content, attrs) for _, name, content, attrs in objects(box.root)} if os.path.isdir(folder) else None
     if (None if there is None else sorted(there)) != listed:
