@@ -2,7 +2,6 @@
 
 run:
 	mkdir -p out
-	rm -rf out/store
 	rm -rf out/store out/journal
 	cd crates/filestore_cli && rt run -- ../../out/store ../../out/journal run new < stdin
 
