@@ -1,26 +1,22 @@
 -- The digits of a number, without leading zeros, and the number that they spell.
-use Rattle.std.proofs.Common.{◌≡◌, ◌≢◌, ◌⊎◌, inl, inr, ℕ, zero, suc, ◌+◌, ◌-◌, ◌*◌, ◌/◌, ◌%◌, ◌^◌, ◌<◌, ◌≤◌, Bool, true, false, ◌&&◌, cond, List, [], ◌∷◌, ◌++◌, length, get_or, take, Option, Some, None, Result, Ok, Err, refl, sym, ap, subst, ◌∙◌, arith, eqb, ltb}
+use Rattle.std.proofs.Common.{◌≡◌, ◌≢◌, ◌⊎◌, inl, inr, ℕ, zero, suc, ◌+◌, ◌-◌, ◌*◌, ◌/◌, ◌%◌, ◌^◌, ◌<◌, ◌≤◌, Bool, true, false, ◌&&◌, cond, List, [], ◌∷◌, ◌++◌, length, get_or, take, Option, Some, None, refl, sym, ap, subst, ◌∙◌, arith, eqb, ltb}
 use Rattle.std.proofs.Math.Nat.{mul-le-mul_left, mul-le-mul_right, pow-le-pow_left, zero-div, mul_assoc, pow-succ', pow-suc, pow-zero, mod-lt, div-lt_iff_lt-mul}
 use Rattle.std.proofs.Math.Pow.{pow_mono}
 use Rattle.std.proofs.lemmas.Nat.{div-add-mod', div-mul-add, mod-mul-add, pow_pos}
-use Rattle.std.proofs.lemmas.Bool.{both_ways, eq-eqb, ne_eqb, cases_eq, cases_lt, cond_both, cond-true, and_parts, and_from, ltb-true, lt-ltb}
+use Rattle.std.proofs.lemmas.Bool.{both_ways, eq-eqb, ne_eqb, cases_eq, cases_lt, cond_both, cond-true, and_parts, and_from, ltb-true, ltb-false, lt-ltb}
 use Rattle.std.proofs.lemmas.Bool.Decides.{nat_tests}
 use Rattle.std.proofs.lemmas.Fmt.{digits_is_IsNumeral}
-use Rattle.std.proofs.lemmas.Int.Digits.{digits_value_push}
+use Rattle.std.proofs.lemmas.Int.Digits.{digits_value_push, digits_value_more}
 use Rattle.std.proofs.lemmas.List.{take_more, take_all, append-nil, append_assoc, length-take, get_or-take}
-use Rattle.std.proofs.lemmas.List.Elements.{All-weaker, All-nil, All-cons, All-head, All-take, All-get_or}
-use Rattle.std.proofs.lemmas.List.Sums.{AllPass-from_list_all, list_all-from_AllPass}
-use Rattle.std.proofs.lemmas.Str.{IsUtf8-from_ascii}
-use Rattle.std.proofs.lemmas.Str.Ascii.{IsAscii-from_all}
-use Rattle.std.proofs.lemmas.Str.Parse.{without_leading_plus_none}
+use Rattle.std.proofs.lemmas.List.Elements.{All-nil, All-cons, All-head, All-push, All-take, All-get_or}
+use Rattle.std.proofs.lemmas.Str.Parse.{digits_value-take-le}
 use Rattle.std.proofs.lemmas.Slice.Eq.{bytes_eq-Decides}
 use Rattle.std.specs.Char.{digit_value}
 use Rattle.std.specs.Fmt.{digits, digits_onto, digit_glyph}
-use Rattle.std.specs.List.{AllPass, list_all}
-use Rattle.std.specs.Result.{OkIff, result_ok}
-use Rattle.std.specs.Str.{IsUtf8, bytes_eq}
-use Rattle.std.specs.Str.Parse.{IsNumeral, ParsesUnsigned, digits_value, digits_value_after, without_leading_plus}
-use Rattle.fs_names.specs.Numbers.{is_lower_digit, number_of, IsSpelledByDigits}
+use Rattle.std.specs.List.{AllPass}
+use Rattle.std.specs.Str.{bytes_eq}
+use Rattle.std.specs.Str.Parse.{digits_value, digits_value_after}
+use Rattle.fs_names.specs.Numbers.{is_lower_digit, lower_value, below_64_bits, number_of, IsSpelledByDigits}
 
 pub onto_all : (base n : ℕ) → digits base false n ≡ digits_onto 64 base false n []
 unfolding digits
@@ -245,51 +241,66 @@ number_of-leading_zero base text low high long zero_first =
     let first = digits_first base n low high p.0 (ap (λ l. get_or l 0 0) (sym p.1) ∙ zero_first) in
     omega (arith, ap length p.1))
 
-pub number_of-other : (base : ℕ) (text : List ℕ) → 2 ≤ base → base ≤ 16 → list_all (is_lower_digit base) text ≡ false → number_of base text ≡ None
-number_of-other base text low high other =
+-- what was read of a text's digits, up to a place
+pub record ReadTo (base : ℕ) (is_digit : ℕ → Bool) (text : List ℕ) (i n : ℕ) : Type 0 where
+  pub digits : AllPass is_digit (take i text)
+  pub is : n ≡ digits_value base (take i text)
+
+pub read_first : (base : ℕ) (is_digit : ℕ → Bool) (text : List ℕ) → ReadTo base is_digit text 0 0
+read_first base is_digit text = record { digits = All-nil (λ b. is_digit b ≡ true); is = refl }
+
+pub read_more : (base : ℕ) (is_digit : ℕ → Bool) (text : List ℕ) (i n m : ℕ) → i < length text → is_digit (get_or text i 0) ≡ true
+    → m ≡ n * base + digit_value (get_or text i 0) → ReadTo base is_digit text i n → ReadTo base is_digit text (i + 1) m
+read_more base is_digit text i n m small is e r =
+    record {
+      digits = subst (AllPass is_digit) (sym (take_more text i 0 small)) (All-push (λ b. is_digit b ≡ true) (take i text) (get_or text i 0) r.digits is);
+      is = e ∙ ap (λ v. v * base + digit_value (get_or text i 0)) r.is ∙ sym (digits_value_more base text i small);
+    }
+
+pub read_all : (base : ℕ) (is_digit : ℕ → Bool) (text : List ℕ) (i n : ℕ) → length text ≤ i → ReadTo base is_digit text i n
+    → AllPass is_digit text × (n ≡ digits_value base text)
+read_all base is_digit text i n end r =
+    let whole = take_all i text end in
+    (subst (AllPass is_digit) whole r.digits, r.is ∙ ap (digits_value base) whole)
+
+-- a test that gave a value, and one that gave none
+pub unpicked : (b : Bool) (m : ℕ) → cond b (Some m) None ≡ None → b ≡ false
+unpicked true m e = cc
+unpicked false m e = refl
+
+-- where reading ends
+pub number_of-empty : (base : ℕ) (text : List ℕ) → 2 ≤ base → base ≤ 16 → length text ≡ 0 → number_of base text ≡ None
+number_of-empty base text low high none =
     none_from (number_of base text) (λ n e.
     let p = number_gives base text n e in
-    let all = list_all-from_AllPass (is_lower_digit base) (digits base false n) (digits-lower base n low high) in
-    both_ways (list_all (is_lower_digit base) text) other (ap (list_all (is_lower_digit base)) p.1 ∙ all))
+    let some = length-digits base n low high p.0 in
+    omega (arith, ap length p.1))
 
-lower_ascii : (base b : ℕ) → base ≤ 16 → is_lower_digit base b ≡ true → b < 128
-lower_ascii base b high h = grind (arith, nat_tests)
-
-pub lower-IsUtf8 : (base : ℕ) (text : List ℕ) → base ≤ 16 → list_all (is_lower_digit base) text ≡ true → IsUtf8 text
-lower-IsUtf8 base text high h =
-    IsUtf8-from_ascii text (IsAscii-from_all text
-    (All-weaker (λ b. is_lower_digit base b ≡ true) (λ b. b < 128) (λ b. lower_ascii base b high) text (AllPass-from_list_all (is_lower_digit base) text h)))
-
--- what `from_str_radix` reads of digits
-lower_not_plus : (base b : ℕ) → is_lower_digit base b ≡ true → base ≤ 16 → b ≢ 43
-lower_not_plus base b h high e = grind (arith, nat_tests)
-
-plus_apart : (base : ℕ) (text : List ℕ) → base ≤ 16 → AllPass (is_lower_digit base) text → without_leading_plus text ≡ text
-plus_apart base [] high all = refl
-plus_apart base (b ∷ bs) high all =
-    let first = All-head (λ b. is_lower_digit base b ≡ true) b bs all in
-    without_leading_plus_none (b ∷ bs) (λ e. lower_not_plus base b first high e)
-
-number_of-numeral : (base : ℕ) (text : List ℕ) (n : ℕ) → 2 ≤ base → base ≤ 16 → number_of base text ≡ Some n → IsNumeral base text × (digits_value base text ≡ n)
-number_of-numeral base text n low high e =
+pub number_of-stops : (base : ℕ) (text : List ℕ) (i : ℕ) → 2 ≤ base → base ≤ 16 → i < length text → lower_value base (get_or text i 0) ≡ None → number_of base text ≡ None
+number_of-stops base text i low high small other =
+    none_from (number_of base text) (λ n e.
     let p = number_gives base text n e in
-    let q = digits_is_IsNumeral base false low high n (fits_digits base n low p.0) in
-    subst (λ l. IsNumeral base l × (digits_value base l ≡ n)) (sym p.1) q
+    let all = subst (AllPass (is_lower_digit base)) (sym p.1) (digits-lower base n low high) in
+    both_ways _ (unpicked (is_lower_digit base (get_or text i 0)) (digit_value (get_or text i 0)) other)
+    (All-get_or (λ b. is_lower_digit base b ≡ true) text i 0 small all))
 
-pub number_of-parsed : {E : Type 0} (base : ℕ) (text : List ℕ) (r : Result ℕ E) → 2 ≤ base → base ≤ 16
-    → list_all (is_lower_digit base) text ≡ true → NoZeroFirst text → ParsesUnsigned 64 base text r → result_ok r ≡ number_of base text
-number_of-parsed {E} base text r low high lower first parsed =
-    by r (subst (λ l. OkIff r (IsNumeral base l × (digits_value base l < 2 ^ 64)) (digits_value base l)) (plus_apart base text high all) parsed)
-  where
-    all : AllPass (is_lower_digit base) text
-    all = AllPass-from_list_all (is_lower_digit base) text lower
+pub number_of-large : (base : ℕ) (text : List ℕ) (i n d : ℕ) → 2 ≤ base → base ≤ 16 → i < length text → lower_value base (get_or text i 0) ≡ Some d
+    → below_64_bits (n * base + d) ≡ None → ReadTo base (is_lower_digit base) text i n → number_of base text ≡ None
+number_of-large base text i n d low high small is other r =
+    none_from (number_of base text) (λ m e.
+    let p = number_gives base text m e in
+    let digit = picked (is_lower_digit base (get_or text i 0)) (digit_value (get_or text i 0)) d is in
+    let more = read_more base (is_lower_digit base) text i n (n * base + d) small digit.0 (ap (λ v. n * base + v) (sym digit.1)) r in
+    let large = ltb-false (n * base + d) (2 ^ 64) (unpicked (ltb (n * base + d) (2 ^ 64)) (n * base + d) other) in
+    let part = digits_value-take-le base text (i + 1) (omega arith) in
+    let whole : digits_value base text ≡ m = ap (digits_value base) p.1 ∙ digits-value base m low high p.0 in
+    let bound : 2 ^ 64 ≤ digits_value base (take (i + 1) text) = subst (λ v. 2 ^ 64 ≤ v) more.is large in
+    omega (arith, p.0))
 
-    by : (q : Result ℕ E) → OkIff q (IsNumeral base text × (digits_value base text < 2 ^ 64)) (digits_value base text) → result_ok q ≡ number_of base text
-    by (Ok x) p =
-        let v = digits_value base text in
-        let is = digits-digits_value base text low high all p.0.0.0 first p.0.1 in
-        ap Some p.1 ∙ sym (ap (number_of base) (sym is) ∙ number_reads base v low high p.0.1)
-    by (Err f) p =
-        sym (none_from (number_of base text) (λ n e.
-        let q = number_of-numeral base text n low high e in
-        p (q.0, subst (λ m. m < 2 ^ 64) (sym q.1) (number_gives base text n e).0)))
+pub number_of-read : (base : ℕ) (text : List ℕ) (i n : ℕ) → 2 ≤ base → base ≤ 16 → 0 < length text → NoZeroFirst text → n < 2 ^ 64 → length text ≤ i
+    → ReadTo base (is_lower_digit base) text i n → Some n ≡ number_of base text
+number_of-read base text i n low high some first small end r =
+    let whole = read_all base (is_lower_digit base) text i n end r in
+    let v_small : digits_value base text < 2 ^ 64 = subst (λ v. v < 2 ^ 64) whole.1 small in
+    let is = digits-digits_value base text low high whole.0 some first v_small in
+    ap Some whole.1 ∙ sym (ap (number_of base) (sym is) ∙ number_reads base (digits_value base text) low high v_small)

@@ -1,5 +1,5 @@
 -- The bytes that stand between the bytes `_` of a text.
-use Rattle.std.proofs.Common.{◌≡◌, ◌≢◌, inl, inr, ℕ, ◌/◌, ◌%◌, ◌<◌, ◌≤◌, ◌==◌, ◌&&◌, Bool, true, false, not, cond, codes, List, [], ◌∷◌, ◌++◌, drop, Option, Some, None, refl, sym, ap, subst, ◌∙◌, arith}
+use Rattle.std.proofs.Common.{◌≡◌, ◌≢◌, inl, inr, ℕ, ◌/◌, ◌%◌, ◌<◌, ◌≤◌, ◌==◌, ◌&&◌, Bool, true, false, not, cond, codes, List, [], ◌∷◌, drop, Option, Some, None, refl, sym, subst, arith}
 use Rattle.std.proofs.Math.Nat.{mod-lt, div-lt_iff_lt-mul}
 use Rattle.std.proofs.lemmas.Bool.{cases_eq}
 use Rattle.std.proofs.lemmas.Bool.Decides.{nat_tests}
@@ -7,7 +7,7 @@ use Rattle.std.proofs.lemmas.List.Elements.{All-nil, All-cons, All-head, All-tai
 use Rattle.std.proofs.lemmas.List.Sums.{AllPass-from_list_all}
 use Rattle.std.specs.Char.{is_ascii_graphic}
 use Rattle.std.specs.Fmt.{digits, digit_glyph}
-use Rattle.std.specs.List.{All, AllPass}
+use Rattle.std.specs.List.{AllPass}
 use Rattle.fs_names.specs.declared.oid.Snap.{Snap}
 use Rattle.fs_names.specs.declared.oid.Snap.TheVariants.{Head, Dir, Id}
 use Rattle.fs_names.specs.Numbers.{is_lower_digit}
@@ -15,6 +15,7 @@ use Rattle.fs_names.specs.Text.{spelled, field_text, name_text, snap_text, pool_
 use Rattle.fs_names.specs.Units.{begins}
 use Rattle.fs_names.proofs.Digits.{digits-lower, glyph_lower}
 use Rattle.fs_names.proofs.Hashes.{hash_text-All}
+use Rattle.fs_names.proofs.Plain.{field_itself}
 use Rattle.fs_names.proofs.ReadLaws.{IsSmall}
 use Rattle.fs_names.proofs.UnitLaws.{spelled-plain, spelled-digits}
 
@@ -103,11 +104,6 @@ name_text-inner bytes all = by (begins bytes (codes "DIR_")) (begins bytes (code
     by false false = field_text-inner bytes all
 
 -- a snapshot's text holds no byte that an escape would spell
-field_itself : (bytes : List ℕ) → All (λ b. spelled b ≡ b ∷ []) bytes → field_text bytes ≡ bytes
-field_itself [] all = refl
-field_itself (b ∷ bs) all =
-    ap (λ l. l ++ field_text bs) (All-head (λ b. spelled b ≡ b ∷ []) b bs all) ∙ ap (λ l. b ∷ l) (field_itself bs (All-tail (λ b. spelled b ≡ b ∷ []) b bs all))
-
 lower_itself : (b : ℕ) → is_lower_digit 16 b ≡ true → spelled b ≡ b ∷ []
 lower_itself b h = grind (arith, nat_tests)
 

@@ -8,6 +8,8 @@ use Rattle.std.proofs.lemmas.Slice.Eq.{strip_prefix_is}
 use Rattle.std.specs.Cmp.Lexicographic.{pointwise}
 use Rattle.std.specs.Fmt.{digits, digits_onto, digit_glyph}
 use Rattle.std.specs.Ordering.{ordering_then, is_ne}
+use Rattle.std.specs.Prelude.{if◌then◌else◌}
+use Rattle.std.specs.Result.{is_ok}
 use Rattle.std.specs.declared.cmp.Ordering.{Ordering}
 use Rattle.std.specs.declared.cmp.Ordering.TheVariants.{Less, Equal, Greater}
 use Rattle.fs_names.specs.declared.fault.NameFault.TheVariants.{BadEscape}
@@ -243,6 +245,11 @@ some_left (suc n) t e f = omega arith
 pub on_ok : {T E : Type 0} (r : Result T E) (A B : Type 0) → OnOk r A → (A → B) → OnOk r B
 on_ok (Ok x) A B h f = f h
 on_ok (Err e) A B h f = tt
+
+pub extended : {T E : Type 0} (r : Result T E) (new old text bytes : List ℕ) → new ≡ (if is_ok r then old ++ text else old) → text ≡ bytes
+    → OnOk r (new ≡ old ++ bytes)
+extended (Ok x) new old text bytes e same = e ∙ ap (λ l. old ++ l) same
+extended (Err f) new old text bytes e same = tt
 
 pub take_rest : (n : ℕ) (xs : List ℕ) → take (length xs - n) (drop n xs) ≡ drop n xs
 take_rest n xs = take_all (length xs - n) (drop n xs) (omega (arith, length-drop n xs))

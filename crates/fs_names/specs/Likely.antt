@@ -1,6 +1,6 @@
 -- How a text is looked up in the table of spellings: the byte that its first unit would stand for.
-use Rattle.std.specs.Prelude.{ℕ, ◌+◌, ◌*◌, ◌==◌, if◌then◌else◌, nat_lt, List, [], ◌∷◌, Option, Some, None}
-use Rattle.std.specs.Char.{digit_value}
+use Rattle.std.specs.Prelude.{ℕ, ◌+◌, ◌*◌, ◌==◌, Bool, ◌&&◌, not, if◌then◌else◌, nat_lt, List, [], ◌∷◌, Option, Some, None}
+use Rattle.std.specs.Char.{digit_value, is_ascii_graphic}
 use Rattle.std.specs.Option.{option_map, option_and_then}
 
 -- a digit in either case
@@ -26,3 +26,7 @@ byte_of_escape (letter ∷ rest) = if letter == 120 then byte_of_digits rest els
 abbrev pub likely_byte : List ℕ → Option ℕ
 likely_byte [] = None
 likely_byte (first ∷ rest) = if first == 92 then byte_of_escape rest else Some first
+
+-- a byte that spells itself
+abbrev pub is_plain : ℕ → Bool
+is_plain b = is_ascii_graphic b && not (b == 92) && not (b == 47) && not (b == 95)

@@ -2,6 +2,7 @@ ghost use Rattle.std.specs.Prelude.{◌≡◌, ◌<◌, ◌^◌, true};
 ghost use Rattle.std.specs.Cmp.Lexicographic.{slice_cmp};
 ghost use Rattle.std.specs.Fmt.{digit_glyph};
 ghost use Rattle.std.specs.Ordering.{nat_cmp};
+ghost use Rattle.fs_names.specs.Numbers.{upper_value};
 ghost use Rattle.fs_names.specs.Text.{digit_at, hash_digits, hash_text};
 
 use std::cmp::Ordering;
@@ -41,6 +42,17 @@ fn upper_digit(value: u8) -> u8
         b'0' + value
     } else {
         b'A' + (value - 10)
+    }
+}
+
+/// The value of an upper-case digit.
+pub(crate) fn upper_value(byte: u8) -> Option<u32>
+    ensures { result ≡ upper_value byte }
+{
+    match byte {
+        b'0'..=b'9' => Some(u32::from(byte - b'0')),
+        b'A'..=b'F' => Some(u32::from(byte - 55)),
+        _ => None,
     }
 }
 

@@ -1,6 +1,5 @@
-ghost use Rattle.std.specs.Prelude.{◌≡◌, ◌≤◌, true, IfNone, IfSome, OnSome, length, slice_index};
-ghost use Rattle.std.specs.List.{list_all};
-ghost use Rattle.fs_names.specs.Numbers.{number_of, is_lower_digit, IsSpelledByDigits};
+ghost use Rattle.std.specs.Prelude.{◌≡◌, ◌≤◌, ◌<◌, ◌+◌, ◌*◌, length, slice_index};
+ghost use Rattle.fs_names.specs.Numbers.{number_of, lower_value, below_64_bits, IsSpelledByDigits};
 
 /// The number that decimal digits spell, without a sign or a leading zero. Numbers have 64 bits.
 pub fn decimal(text: &[u8]) -> Option<u64>
@@ -16,46 +15,60 @@ pub fn hexadecimal(text: &[u8]) -> Option<u64>
     number(text, 16)
 }
 
-fn is_lower_digit(byte: u8, base: u32) -> bool
-    requires low { 2 ≤ base }
+/// The value of a digit of a base, in lower case.
+fn lower_value(byte: u8, base: u64) -> Option<u64>
     requires high { base ≤ 16 }
-    ensures { result ≡ is_lower_digit base byte }
+    ensures { result ≡ lower_value base byte }
 {
-    char::from(byte).is_digit(base) && !byte.is_ascii_uppercase()
+    let value = match byte {
+        b'0'..=b'9' => byte - b'0',
+        b'a'..=b'f' => byte - 87,
+        _ => return None,
+    };
+    let value = u64::from(value);
+    (value < base).then_some(value)
 }
 
-fn are_lower_digits(text: &[u8], base: u32) -> bool
-    requires low { 2 ≤ base }
-    requires high { base ≤ 16 }
-    ensures { result ≡ list_all (is_lower_digit base) text.now }
+/// A number, and a digit behind it, where they have 64 bits.
+fn with_digit(number: u64, base: u64, digit: u64) -> Option<u64>
+    ensures { result ≡ below_64_bits (number * base + digit) }
 {
-    text.iter().all(|b| is_lower_digit(*b, base))
+    number.checked_mul(base)?.checked_add(digit)
 }
 
-/// The text, where it is lower-case digits and no zero stands before others.
-fn digits_text(text: &[u8], base: u32) -> Option<&str>
+/// The number that digits spell, of which no zero stands before others.
+fn unpadded(text: &[u8], base: u64) -> Option<u64>
     requires low { 2 ≤ base }
     requires high { base ≤ 16 }
-    ensures none { IfNone result (number_of base text.now ≡ None) }
-    ensures same { IfSome result (λ digits. digits.now ≡ text.now) }
-    ensures lower { OnSome result (list_all (is_lower_digit base) text.now ≡ true) }
-    ensures nonzero { OnSome result (slice_index text.now 0 ≡ 48 → length text.now ≤ 1) }
+    requires some { 0 < length text.now }
+    requires nonzero { slice_index text.now 0 ≡ 48 → length text.now ≤ 1 }
+    ensures { result ≡ number_of base text.now }
 {
-    if text.len() > 1 && text[0] == b'0' {
-        return None;
+    let mut number = 0u64;
+    for byte in text {
+        let Some(digit) = lower_value(*byte, base) else {
+            return None;
+        };
+        let Some(longer) = with_digit(number, base, digit) else {
+            return None;
+        };
+        number = longer;
     }
-    if !are_lower_digits(text, base) {
-        return None;
-    }
-    str::from_utf8(text).ok()
+    Some(number)
 }
 
-fn number(text: &[u8], base: u32) -> Option<u64>
+fn number(text: &[u8], base: u64) -> Option<u64>
     requires low { 2 ≤ base }
     requires high { base ≤ 16 }
     ensures { result ≡ number_of base text.now }
 {
-    u64::from_str_radix(digits_text(text, base)?, base).ok()
+    if text.is_empty() {
+        return None;
+    }
+    if text.len() > 1 && text[0] == b'0' {
+        return None;
+    }
+    unpadded(text, base)
 }
 
 /// A number below 2 ^ 64 is spelled by its digits, and by nothing else.

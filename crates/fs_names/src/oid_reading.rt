@@ -3,7 +3,7 @@ ghost use Rattle.std.specs.Result.{IsOkAnd};
 ghost use Rattle.fs_names.specs.Reading.{oid_of, oid_of_six, names_of, snap_of, hash_of, pool_of};
 ghost use Rattle.fs_names.specs.Units.{name_of, field_of};
 
-use crate::hash::hash_text;
+use crate::hash::upper_value;
 use crate::split::split_once;
 use crate::units::{count_name, count_units, push_name, push_units};
 use crate::{Name, NameFault, Oid, Snap, hexadecimal};
@@ -193,8 +193,17 @@ fn within_limit(field: u8, count: usize) -> Result<(), NameFault>
 fn read_hash(text: &[u8]) -> Option<u32>
     ensures { result ≡ hash_of text.now }
 {
-    let hash = u32::from_str_radix(str::from_utf8(text).ok()?, 16).ok()?;
-    (text == hash_text(hash).as_slice()).then_some(hash)
+    if text.len() != 8 {
+        return None;
+    }
+    let mut hash = 0u32;
+    for byte in text {
+        let Some(digit) = upper_value(*byte) else {
+            return None;
+        };
+        hash = hash * 16 + digit;
+    }
+    Some(hash)
 }
 
 fn read_snap(text: &[u8]) -> Option<Snap>

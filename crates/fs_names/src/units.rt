@@ -1,7 +1,8 @@
 //! The text of a name, a key or a namespace, read unit by unit: first counted and judged, then read.
 ghost use Rattle.std.specs.Prelude.{◌≡◌, ◌+◌, ◌≤◌, ◌<◌, ◌^◌, ◌++◌, ◌≢◌, ℕ, List, Ok, Err, Some, length, OnOk, IfOk, IfNone, IfSome};
 ghost use Rattle.fs_names.specs.Text.{spelled};
-ghost use Rattle.fs_names.specs.Likely.{byte_of_digits, byte_of_letter, byte_of_escape, likely_byte, value_of_digit};
+ghost use Rattle.std.specs.List.{list_all};
+ghost use Rattle.fs_names.specs.Likely.{byte_of_digits, byte_of_letter, byte_of_escape, is_plain, likely_byte, value_of_digit};
 ghost use Rattle.fs_names.specs.Units.{unit_byte, field_of, name_of, counted};
 
 use crate::NameFault;
@@ -62,6 +63,20 @@ fn likely_byte(text: &[u8]) -> Option<u8>
     }
 }
 
+/// A byte that spells itself.
+fn is_plain(byte: u8) -> bool
+    ensures { result ≡ is_plain byte }
+{
+    byte.is_ascii_graphic() && byte != b'\\' && byte != b'/' && byte != b'_'
+}
+
+/// Each byte spells itself.
+fn are_plain(text: &[u8]) -> bool
+    ensures { result ≡ list_all is_plain text.now }
+{
+    text.iter().all(|byte| is_plain(*byte))
+}
+
 /// The byte whose spelling begins a text, and what follows it.
 fn next_unit(text: &[u8]) -> Option<(u8, &[u8])>
     ensures none { IfNone result (unit_byte text.now ≡ None) }
@@ -84,6 +99,9 @@ pub(crate) fn count_units(at: usize, text: &[u8]) -> Result<usize, NameFault>
     ensures few { IfOk result (λ count. count ≤ length text.now) }
     ensures never { result ≢ Err NameFault.Memory }
 {
+    if are_plain(text) {
+        return Ok(text.len());
+    }
     let mut place = at;
     let mut rest = text;
     let mut count = 0usize;
@@ -120,6 +138,9 @@ pub(crate) fn count_name(text: &[u8]) -> Result<usize, NameFault>
 pub(crate) fn push_units(out: &mut Vec<u8>, text: &[u8]) -> Result<(), AllocError>
     ensures { (at : ℕ) (bytes : List ℕ) → field_of at text.now ≡ Ok bytes → OnOk result (out.new.items ≡ out.old.items ++ bytes) }
 {
+    if are_plain(text) {
+        return out.extend_from_slice(text);
+    }
     let mut rest = text;
     while let Some((byte, following)) = next_unit(rest) {
         out.push(byte)?;

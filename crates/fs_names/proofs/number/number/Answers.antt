@@ -1,10 +1,13 @@
-use Rattle.std.proofs.Common.{◌∙◌, subst}
-use Rattle.std.specs.Str.Parse.{ParsesUnsigned}
-use Rattle.fs_names.proofs.Digits.{number_of-parsed}
+use Rattle.std.proofs.Common.{length, sym, ◌∙◌}
+use Rattle.std.proofs.lemmas.Bool.{eqb-true}
+use Rattle.fs_names.proofs.Digits.{number_of-empty, number_of-leading_zero}
 use Rattle.fs_names.proofs.number.number.Goals as goal
 
-pub returns : goal.returns
-returns c =
-    let digits = c.in_ok-digits_text.ensures in
-    c.ok.ensures.value ∙ number_of-parsed c.args.base c.args.text.now c.from_str_radix.result c.requires.low c.requires.high digits.lower digits.nonzero
-    (subst (λ text. ParsesUnsigned 64 c.args.base text c.from_str_radix.result) digits.same c.from_str_radix.ensures.value)
+pub returns-then-is_empty : goal.returns-then-is_empty
+returns-then-is_empty c =
+    sym (number_of-empty c.args.base c.args.text.now c.requires.low c.requires.high
+    (eqb-true (length c.args.text.now) 0 (sym c.is_empty.ensures ∙ c.if-is_empty.true)))
+
+pub returns-then-text-eq48 : goal.returns-then-text-eq48
+returns-then-text-eq48 c =
+    sym (number_of-leading_zero c.args.base c.args.text.now c.requires.low c.requires.high c.if-text-gt1.true c.if-text-eq48.true)

@@ -1,7 +1,13 @@
-use Rattle.std.proofs.Common.{sym, length, ◌∙◌}
+use Rattle.std.proofs.Common.{ap, sym, length, ◌∙◌}
 use Rattle.std.proofs.lemmas.Bool.{eqb-true}
+use Rattle.fs_names.specs.Units.{counted}
 use Rattle.fs_names.proofs.Loops.{counted_more, counted_end, counted_stop, some_left}
+use Rattle.fs_names.proofs.Plain.{plain_field}
 use Rattle.fs_names.proofs.units.count_units.Goals as goal
+
+pub returns-then-are_plain-clause-value : goal.returns-then-are_plain-clause-value
+returns-then-are_plain-clause-value c =
+    ap counted (sym (plain_field c.args.at c.args.text.now (sym c.are_plain.ensures ∙ c.if-are_plain.true)))
 
 pub loop-following-preserved : goal.loop-following-preserved
 loop-following-preserved c =

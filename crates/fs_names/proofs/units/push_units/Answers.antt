@@ -1,5 +1,12 @@
-use Rattle.fs_names.proofs.Loops.{pushed_first, pushed_more, pushed_end}
+use Rattle.std.proofs.Common.{sym, ◌∙◌}
+use Rattle.fs_names.proofs.Loops.{extended, pushed_first, pushed_more, pushed_end}
+use Rattle.fs_names.proofs.Plain.{plain_read}
 use Rattle.fs_names.proofs.units.push_units.Goals as goal
+
+pub returns-then-are_plain : goal.returns-then-are_plain
+returns-then-are_plain c = λ at bytes e.
+    let same = plain_read at c.args.text.now bytes (sym c.are_plain.ensures ∙ c.if-are_plain.true) e in
+    extended c.extend_from_slice.result c.extend_from_slice.new.self.items c.args.out.now.items c.args.text.now bytes c.extend_from_slice.ensures.items same
 
 pub loop-byte-init : goal.loop-byte-init
 loop-byte-init c = pushed_first c.args.out.now.items c.args.text.now
