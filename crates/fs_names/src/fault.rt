@@ -5,7 +5,8 @@ use std::alloc::AllocError;
 /// Why bytes are no name, or a text is no spelling of an object's name.
 #[derive(Debug, Drop, Clone, Copy, PartialEq, Eq)]
 pub enum NameFault {
-    /// A byte that isn't supported stands at this place, counted from 0.
+    /// At this place of the text, counted from 0, begins something in the name, the key or the namespace that spells no
+    /// byte there.
     BadEscape { at: u64 },
     /// This field is no spelling. Fields are counted from 0; 6 says that there aren't six.
     BadField { n: u8 },

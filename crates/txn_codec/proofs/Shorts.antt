@@ -7,7 +7,7 @@ use Rattle.fs_model.specs.declared.op.Op.TheVariants.{Touch, Write, Zero, Trunca
 use Rattle.fs_model.specs.declared.pair.Pair.{Pair}
 use Rattle.std.specs.Option.{unwrap_or}
 use Rattle.fs_model.specs.Check.{IsWithinLimits, same_object, too_big, bad_attr, bad_attr_name, big_key, big_pair}
-use Rattle.txn_codec.specs.Spelling.{IsShort, BlobFits, PairFits, AllFit, HeaderFits}
+use Rattle.txn_codec.specs.Spelling.{IsShort, BlobFits, PairFits, AllFit, HeaderFits, OpFits}
 
 first : (a b : Bool) → (a || b) ≡ false → a ≡ false
 first true b e = absurd (cc)
@@ -76,3 +76,27 @@ short_op op h = small_op op (second (same_object op) (too_big op) h)
 pub short_ops : (ops : List Op) → AllByRecursion IsWithinLimits ops → AllByRecursion IsShort ops
 short_ops [] h = tt
 short_ops (op ∷ ops) h = (short_op op h.0, short_ops ops h.1)
+
+-- what has a spelling is short enough
+fits : (op : Op) → OpFits op → IsShort op
+fits (Touch c o) h = tt
+fits (Write c o at bytes) h = h.1.1
+fits (Zero c o at len) h = tt
+fits (Truncate c o len) h = tt
+fits (Remove c o) h = tt
+fits (SetAttrs c o pairs) h = h.1
+fits (RmAttr c o name) h = h.1
+fits (RmAttrs c o) h = tt
+fits (Clone c o c2 o2) h = tt
+fits (CloneRange c o c2 o2 from len to) h = tt
+fits (MoveRename c o c2 o2) h = tt
+fits (MkColl c) h = tt
+fits (RmColl c) h = tt
+fits (OmapClear c o) h = tt
+fits (OmapSet c o head pairs) h = h.1
+fits (OmapRemove c o keys) h = h.1
+fits (OmapRange c o from to) h = h.1
+
+pub fits_short : (ops : List Op) → AllByRecursion OpFits ops → AllByRecursion IsShort ops
+fits_short [] h = tt
+fits_short (op ∷ ops) h = (fits op h.0, fits_short ops h.1)

@@ -7,8 +7,7 @@ use std::alloc::{AllocError, AllocFailed};
 pub enum CodecFault {
     /// The field isn't whole.
     Short { at: u64 },
-    /// A tag or a flag isn't listed. Names with bytes that a text would have to escape aren't supported yet, and give
-    /// this fault at the place of the name's bytes.
+    /// A tag or a flag isn't listed.
     BadTag { at: u64 },
     /// A name has more than 1,024 bytes, or there are more than 4,096 operations.
     BadLength { at: u64 },

@@ -23,3 +23,6 @@ pub use fault::CodecFault;
 pub use laws::{encodable_law, payload_law};
 pub use reading::decode_txn;
 pub use writing::encode_txn;
+
+#[cfg(test)]
+mod tests;

@@ -10,7 +10,7 @@ use crate::tags::{
     CLONE, CLONE_RANGE, MK_COLL, MOVE_RENAME, OMAP_CLEAR, OMAP_RANGE, OMAP_REMOVE, OMAP_SET,
     REMOVE, RM_ATTR, RM_ATTRS, RM_COLL, SET_ATTRS, TOUCH, TRUNCATE, WRITE, ZERO,
 };
-use fs_model::{Blob, Op, Pair, Txn};
+use fs_model::{Blob, BlobList, Op, Pair, PairList, Txn};
 use fs_names::{Coll, Name, Oid, Snap};
 use std::alloc::{AllocError, Global};
 
@@ -112,10 +112,11 @@ fn put_pair(out: &mut Vec<u8>, p: &Pair) -> Result<(), AllocError>
     Ok(())
 }
 
-fn put_pairs(out: &mut Vec<u8>, pairs: &[Pair]) -> Result<(), AllocError>
+fn put_pairs(out: &mut Vec<u8>, pairs: &PairList) -> Result<(), AllocError>
     requires { AllFit PairFits pairs.now }
     ensures { OnOk result (out.new.items ≡ out.old.items ++ counted pair pairs.now) }
 {
+    let pairs = pairs.slice();
     out.extend_from_slice(&(pairs.len() as u32).to_be_bytes())?;
     for p in pairs {
         put_pair(out, p)?;
@@ -123,10 +124,11 @@ fn put_pairs(out: &mut Vec<u8>, pairs: &[Pair]) -> Result<(), AllocError>
     Ok(())
 }
 
-fn put_blobs(out: &mut Vec<u8>, blobs: &[Blob]) -> Result<(), AllocError>
+fn put_blobs(out: &mut Vec<u8>, blobs: &BlobList) -> Result<(), AllocError>
     requires { AllFit BlobFits blobs.now }
     ensures { OnOk result (out.new.items ≡ out.old.items ++ counted blob blobs.now) }
 {
+    let blobs = blobs.slice();
     out.extend_from_slice(&(blobs.len() as u32).to_be_bytes())?;
     for bytes in blobs {
         put_blob(out, bytes)?;
@@ -211,54 +213,139 @@ fn put_two_numbers(out: &mut Vec<u8>, a: u64, b: u64) -> Result<(), AllocError>
     Ok(())
 }
 
+// Three numbers of 8 bytes.
+fn put_three_numbers(out: &mut Vec<u8>, a: u64, b: u64, c: u64) -> Result<(), AllocError>
+    ensures { OnOk result (out.new.items ≡ out.old.items ++ (count8 a ++ (count8 b ++ count8 c))) }
+{
+    put_u64(out, a)?;
+    put_two_numbers(out, b, c)?;
+    Ok(())
+}
+
+// A place, and the bytes from there on.
+fn put_bytes_at(out: &mut Vec<u8>, at: u64, bytes: &Blob) -> Result<(), AllocError>
+    requires { BlobFits bytes.now }
+    ensures { OnOk result (out.new.items ≡ out.old.items ++ (count8 at ++ blob bytes.now)) }
+{
+    put_u64(out, at)?;
+    put_blob(out, bytes)?;
+    Ok(())
+}
+
+fn put_write(out: &mut Vec<u8>, c: &Coll, o: &Oid, at: u64, bytes: &Blob) -> Result<(), AllocError>
+    requires { BlobFits bytes.now }
+    ensures spelled { OnOk result (out.new.items ≡ out.old.items ++ op (Op.Write c.now o.now at bytes.now)) }
+    ensures fits { OnOk result (OpFits (Op.Write c.now o.now at bytes.now)) }
+{
+    put_head(out, WRITE, c, o)?;
+    put_bytes_at(out, at, bytes)
+}
+
+fn put_zero(out: &mut Vec<u8>, c: &Coll, o: &Oid, at: u64, len: u64) -> Result<(), AllocError>
+    ensures spelled { OnOk result (out.new.items ≡ out.old.items ++ op (Op.Zero c.now o.now at len)) }
+    ensures fits { OnOk result (OpFits (Op.Zero c.now o.now at len)) }
+{
+    put_head(out, ZERO, c, o)?;
+    put_two_numbers(out, at, len)
+}
+
+fn put_truncate(out: &mut Vec<u8>, c: &Coll, o: &Oid, len: u64) -> Result<(), AllocError>
+    ensures spelled { OnOk result (out.new.items ≡ out.old.items ++ op (Op.Truncate c.now o.now len)) }
+    ensures fits { OnOk result (OpFits (Op.Truncate c.now o.now len)) }
+{
+    put_head(out, TRUNCATE, c, o)?;
+    put_u64(out, len)
+}
+
+fn put_set_attrs(out: &mut Vec<u8>, c: &Coll, o: &Oid, pairs: &PairList) -> Result<(), AllocError>
+    requires { AllFit PairFits pairs.now }
+    ensures spelled { OnOk result (out.new.items ≡ out.old.items ++ op (Op.SetAttrs c.now o.now pairs.now)) }
+    ensures fits { OnOk result (OpFits (Op.SetAttrs c.now o.now pairs.now)) }
+{
+    put_head(out, SET_ATTRS, c, o)?;
+    put_pairs(out, pairs)
+}
+
+fn put_rm_attr(out: &mut Vec<u8>, c: &Coll, o: &Oid, name: &Blob) -> Result<(), AllocError>
+    requires { BlobFits name.now }
+    ensures spelled { OnOk result (out.new.items ≡ out.old.items ++ op (Op.RmAttr c.now o.now name.now)) }
+    ensures fits { OnOk result (OpFits (Op.RmAttr c.now o.now name.now)) }
+{
+    put_head(out, RM_ATTR, c, o)?;
+    put_blob(out, name)
+}
+
+fn put_clone_range(
+    out: &mut Vec<u8>,
+    c: &Coll,
+    o: &Oid,
+    c2: &Coll,
+    o2: &Oid,
+    range: (u64, u64, u64),
+) -> Result<(), AllocError>
+    ensures spelled { OnOk result (out.new.items ≡ out.old.items ++ op (Op.CloneRange c.now o.now c2.now o2.now range.0 range.1 range.2)) }
+    ensures fits { OnOk result (OpFits (Op.CloneRange c.now o.now c2.now o2.now range.0 range.1 range.2)) }
+{
+    let (from, len, to) = range;
+    put_two(out, CLONE_RANGE, c, o, c2, o2)?;
+    put_three_numbers(out, from, len, to)
+}
+
+fn put_omap_set(
+    out: &mut Vec<u8>,
+    c: &Coll,
+    o: &Oid,
+    h: &Option<Blob>,
+    pairs: &PairList,
+) -> Result<(), AllocError>
+    requires { HeaderFits h.now × AllFit PairFits pairs.now }
+    ensures spelled { OnOk result (out.new.items ≡ out.old.items ++ op (Op.OmapSet c.now o.now h.now pairs.now)) }
+    ensures fits { OnOk result (OpFits (Op.OmapSet c.now o.now h.now pairs.now)) }
+{
+    put_head(out, OMAP_SET, c, o)?;
+    put_header(out, h)?;
+    put_pairs(out, pairs)
+}
+
+fn put_omap_remove(out: &mut Vec<u8>, c: &Coll, o: &Oid, keys: &BlobList) -> Result<(), AllocError>
+    requires { AllFit BlobFits keys.now }
+    ensures spelled { OnOk result (out.new.items ≡ out.old.items ++ op (Op.OmapRemove c.now o.now keys.now)) }
+    ensures fits { OnOk result (OpFits (Op.OmapRemove c.now o.now keys.now)) }
+{
+    put_head(out, OMAP_REMOVE, c, o)?;
+    put_blobs(out, keys)
+}
+
+fn put_omap_range(
+    out: &mut Vec<u8>,
+    c: &Coll,
+    o: &Oid,
+    from: &Blob,
+    to: &Blob,
+) -> Result<(), AllocError>
+    requires { BlobFits from.now × BlobFits to.now }
+    ensures spelled { OnOk result (out.new.items ≡ out.old.items ++ op (Op.OmapRange c.now o.now from.now to.now)) }
+    ensures fits { OnOk result (OpFits (Op.OmapRange c.now o.now from.now to.now)) }
+{
+    put_head(out, OMAP_RANGE, c, o)?;
+    put_two_blobs(out, from, to)
+}
+
 fn put_op(out: &mut Vec<u8>, operation: &Op) -> Result<(), AllocError>
     requires { IsShort operation.now }
     ensures spelled { OnOk result (out.new.items ≡ out.old.items ++ op operation.now) }
     ensures fits { OnOk result (OpFits operation.now) }
 {
     match operation {
-        Op::Touch { c, o } => {
-            put_head(out, TOUCH, c, o)?;
-            Ok(())
-        }
-        Op::Write { c, o, at, bytes } => {
-            put_head(out, WRITE, c, o)?;
-            put_u64(out, *at)?;
-            put_blob(out, bytes)?;
-            Ok(())
-        }
-        Op::Zero { c, o, at, len } => {
-            put_head(out, ZERO, c, o)?;
-            put_two_numbers(out, *at, *len)?;
-            Ok(())
-        }
-        Op::Truncate { c, o, len } => {
-            put_head(out, TRUNCATE, c, o)?;
-            put_u64(out, *len)?;
-            Ok(())
-        }
-        Op::Remove { c, o } => {
-            put_head(out, REMOVE, c, o)?;
-            Ok(())
-        }
-        Op::SetAttrs { c, o, pairs } => {
-            put_head(out, SET_ATTRS, c, o)?;
-            put_pairs(out, pairs.slice())?;
-            Ok(())
-        }
-        Op::RmAttr { c, o, name } => {
-            put_head(out, RM_ATTR, c, o)?;
-            put_blob(out, name)?;
-            Ok(())
-        }
-        Op::RmAttrs { c, o } => {
-            put_head(out, RM_ATTRS, c, o)?;
-            Ok(())
-        }
-        Op::Clone { c, o, c2, o2 } => {
-            put_two(out, CLONE, c, o, c2, o2)?;
-            Ok(())
-        }
+        Op::Touch { c, o } => put_head(out, TOUCH, c, o),
+        Op::Write { c, o, at, bytes } => put_write(out, c, o, *at, bytes),
+        Op::Zero { c, o, at, len } => put_zero(out, c, o, *at, *len),
+        Op::Truncate { c, o, len } => put_truncate(out, c, o, *len),
+        Op::Remove { c, o } => put_head(out, REMOVE, c, o),
+        Op::SetAttrs { c, o, pairs } => put_set_attrs(out, c, o, pairs),
+        Op::RmAttr { c, o, name } => put_rm_attr(out, c, o, name),
+        Op::RmAttrs { c, o } => put_head(out, RM_ATTRS, c, o),
+        Op::Clone { c, o, c2, o2 } => put_two(out, CLONE, c, o, c2, o2),
         Op::CloneRange {
             c,
             o,
@@ -267,49 +354,19 @@ fn put_op(out: &mut Vec<u8>, operation: &Op) -> Result<(), AllocError>
             from,
             len,
             to,
-        } => {
-            put_two(out, CLONE_RANGE, c, o, c2, o2)?;
-            put_u64(out, *from)?;
-            put_two_numbers(out, *len, *to)?;
-            Ok(())
-        }
-        Op::MoveRename { c, o, c2, o2 } => {
-            put_two(out, MOVE_RENAME, c, o, c2, o2)?;
-            Ok(())
-        }
-        Op::MkColl { c } => {
-            put_coll_op(out, MK_COLL, c)?;
-            Ok(())
-        }
-        Op::RmColl { c } => {
-            put_coll_op(out, RM_COLL, c)?;
-            Ok(())
-        }
-        Op::OmapClear { c, o } => {
-            put_head(out, OMAP_CLEAR, c, o)?;
-            Ok(())
-        }
+        } => put_clone_range(out, c, o, c2, o2, (*from, *len, *to)),
+        Op::MoveRename { c, o, c2, o2 } => put_two(out, MOVE_RENAME, c, o, c2, o2),
+        Op::MkColl { c } => put_coll_op(out, MK_COLL, c),
+        Op::RmColl { c } => put_coll_op(out, RM_COLL, c),
+        Op::OmapClear { c, o } => put_head(out, OMAP_CLEAR, c, o),
         Op::OmapSet {
             c,
             o,
             header,
             pairs,
-        } => {
-            put_head(out, OMAP_SET, c, o)?;
-            put_header(out, header)?;
-            put_pairs(out, pairs.slice())?;
-            Ok(())
-        }
-        Op::OmapRemove { c, o, keys } => {
-            put_head(out, OMAP_REMOVE, c, o)?;
-            put_blobs(out, keys.slice())?;
-            Ok(())
-        }
-        Op::OmapRange { c, o, from, to } => {
-            put_head(out, OMAP_RANGE, c, o)?;
-            put_two_blobs(out, from, to)?;
-            Ok(())
-        }
+        } => put_omap_set(out, c, o, header, pairs),
+        Op::OmapRemove { c, o, keys } => put_omap_remove(out, c, o, keys),
+        Op::OmapRange { c, o, from, to } => put_omap_range(out, c, o, from, to),
     }
 }
 
