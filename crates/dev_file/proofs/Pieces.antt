@@ -1,11 +1,11 @@
 -- A piece more is read or written.
-use Rattle.std.proofs.Common.{◌≡◌, ⊎_elim, ℕ, ◌+◌, ◌-◌, ◌<◌, ◌≤◌, List, [], ◌++◌, length, take, drop, get_or, refl, sym, ◌∙◌, ap, ap₂, le_refl, arith, slice_range, drop_at, drop-drop, take-add, length-append}
+use Rattle.std.proofs.Common.{◌≡◌, ⊎_elim, ℕ, ◌+◌, ◌-◌, ◌<◌, ◌≤◌, List, [], ◌∷◌, ◌++◌, length, take, drop, get_or, refl, sym, ◌∙◌, ap, ap₂, le_refl, arith, slice_range, drop_at, drop-drop, take-add, length-append, length-drop}
 use Rattle.std.proofs.lemmas.List.{get_or_append_left, get_or-append_right, ext_get_or, length-take-le, take_rest}
 use Rattle.std.proofs.lemmas.Bool.{cases_lt}
 use Rattle.std.proofs.lemmas.Slice.{take-put_mid_below}
 use borrow.Rule.Slice.PartMut.{put_mid, post_of}
 use lib.Seq.{take-append-le}
-use Rattle.dev_api.specs.Disk.{put}
+use Rattle.dev_api.specs.Disk.{Disk, put, wrote_in_part, reading}
 use Rattle.dev_api.proofs.Put.{length-put, put_below, put_within, put_above}
 
 -- the first piece put, and then the second behind it
@@ -46,6 +46,34 @@ put_none xs at h =
 -- the bytes up to a piece's end
 pub front_more : (b : List ℕ) (done n : ℕ) → done ≤ length b → take done b ++ take n (slice_range b done (length b)) ≡ take (done + n) b
 front_more b done n h = ap (λ (l : List ℕ). take done b ++ take n l) (take_rest b done) ∙ sym (take-add done n b)
+
+-- a piece more of a write is written
+reads_more : (xs : List ℕ) (at done n : ℕ) (b : List ℕ) → done + n ≤ length b → at + length b ≤ length xs
+    → put (put xs at (take done b)) (at + done) (take n (slice_range b done (length b))) ≡ put xs at (take (done + n) b)
+reads_more xs at done n b le fits =
+    let within : done ≤ length b = omega (arith, le) in
+    let first = length-take-le done b within in
+    let rest : length (slice_range b done (length b)) ≡ length b - done = ap length (take_rest b done) ∙ length-drop done b in
+    let piece = length-take-le n (slice_range b done (length b)) (omega (arith, rest, le)) in
+    put_then xs at (at + done) (take done b) (take n (slice_range b done (length b))) (ap (λ (k : ℕ). at + k) (sym first)) (omega (arith, first, piece, le, fits))
+    ∙ ap (put xs at) (front_more b done n within)
+
+-- the content inside a write of which so many bytes are written
+abbrev pub so_far : Disk → ℕ → List ℕ → ℕ → Disk
+so_far old at b done = wrote_in_part old at b (put old.reads at (take done b))
+
+pub so_far-more : (old now : Disk) (at done n : ℕ) (b : List ℕ) → done + n ≤ length b → at + length b ≤ length old.reads → now ≡ so_far old at b done
+    → reading now (put now.reads (at + done) (take n (slice_range b done (length b)))) ≡ so_far old at b (done + n)
+so_far-more old now at done n b le fits is =
+    ap (λ (d : Disk). reading d (put d.reads (at + done) (take n (slice_range b done (length b))))) is
+    ∙ ap (wrote_in_part old at b) (reads_more old.reads at done n b le fits)
+
+-- it takes the place of the newest content
+pub past_more : (old now : Disk) (before past : List Disk) (at done n : ℕ) (b : List ℕ) → done + n ≤ length b → at + length b ≤ length old.reads → now ≡ so_far old at b done
+    → past ≡ so_far old at b done ∷ before
+    → reading now (put now.reads (at + done) (take n (slice_range b done (length b)))) ∷ drop 1 past ≡ so_far old at b (done + n) ∷ before
+past_more old now before past at done n b le fits is was =
+    ap₂ (λ (d : Disk) (l : List Disk). d ∷ l) (so_far-more old now at done n b le fits is) (ap (drop 1) was)
 
 -- those in front stay where a piece is read
 pub front_kept : (done k : ℕ) (old new : List ℕ) → done ≤ length old → take done (put_mid done k old new) ≡ take done old

@@ -2,7 +2,7 @@
 use Rattle.std.proofs.Common.{◌≡◌, ℕ, ◌+◌, ◌≤◌, List, [], ◌∷◌, length, take, drop, refl, sym, ap, arith, length-take, length-drop}
 use Rattle.dev_file.specs.Calls.{Call, Asked, Wrote, Gave, Failed, Synced, NotSynced}
 use Rattle.dev_file.specs.Honest.{replay, IsHonest}
-use Rattle.dev_file.specs.Laws.{kept_if_honest}
+use Rattle.dev_file.proofs.Sound.{kept_if_honest}
 
 -- a write within the file may be asked
 pub honest_asked : (first : List ℕ) (h : List Call) (at : ℕ) (bytes : List ℕ) → IsHonest first h → at + length bytes ≤ length (replay first h).disk.reads

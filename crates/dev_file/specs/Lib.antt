@@ -1,5 +1,5 @@
 pub mod Calls
 pub mod Notes
 pub mod Honest
-pub mod Laws
+pub mod Kept
 pub mod Device

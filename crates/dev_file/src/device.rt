@@ -1,5 +1,6 @@
 ghost use Rattle.std.specs.Prelude.{◌≡◌, ◌<◌, ◌^◌, [], length};
 ghost use Rattle.dev_file.specs.Honest.{replay, has_failed, IsHonest};
+ghost use Rattle.dev_file.specs.Kept.{KeptIfHonest};
 
 use crate::{Calls, Start};
 use dev_api::{DevError, DevFailed, Device};
@@ -18,12 +19,14 @@ pub struct FileDevice<C: Calls, S: Start> {
     start: PhantomData<S>,
     ghost few: { faults < 2 ^ 64 },
     ghost known: { unsure ≡ has_failed (C.Calls.history calls) },
+    ghost kept: { KeptIfHonest size S.Start.first (C.Calls.history calls) },
 }
 
 impl<C: Calls, S: Start> FileDevice<C, S> {
     ghost use Rattle.dev_file.specs.Device.{history_of, faults_of, size_of};
 
     /// A device of this many bytes, over a file of which nothing has been asked yet.
+    #[tactic(auto, using(crate::proofs::Sound::kept_if_honest))]
     pub fn new(calls: C, size: u64) -> Self
         requires { C.Calls.history calls ≡ [] }
         ensures calls { history_of result ≡ [] }
@@ -41,8 +44,6 @@ impl<C: Calls, S: Start> FileDevice<C, S> {
 }
 
 impl<C: Calls, S: Start> Device for FileDevice<C, S> {
-    ghost use Rattle.dev_file.specs.Laws.{kept_if_honest};
-
     ghost tells = { λ d. (length S.first ≡ d.size) × IsHonest S.first (C.Calls.history d.calls) };
 
     ghost state = { λ d. record {
@@ -56,6 +57,7 @@ impl<C: Calls, S: Start> Device for FileDevice<C, S> {
         self.size
     }
 
+    #[tactic(auto, using(crate::proofs::Sound::kept_if_honest))]
     fn read_at(&mut self, at: u64, into: &mut [u8]) -> Result<(), DevFailed> {
         let mut done = 0;
         for _ in 0..u64::MAX {
@@ -75,6 +77,7 @@ impl<C: Calls, S: Start> Device for FileDevice<C, S> {
         Err(DevFailed)
     }
 
+    #[tactic(auto, using(crate::proofs::Sound::kept_if_honest))]
     fn write_at(&mut self, at: u64, bytes: &[u8]) -> Result<(), DevError> {
         self.calls.ask(at, bytes);
         let mut done = 0;
@@ -96,6 +99,7 @@ impl<C: Calls, S: Start> Device for FileDevice<C, S> {
     }
 
     /// Once a sync has failed each later one fails too.
+    #[tactic(auto, using(crate::proofs::Sound::kept_if_honest))]
     fn sync(&mut self) -> Result<(), DevFailed> {
         if self.unsure {
             self.faults.rise();
@@ -111,9 +115,9 @@ impl<C: Calls, S: Start> Device for FileDevice<C, S> {
         }
     }
 
-    ghost has_size = { λ d told. (kept_if_honest d.size S.first (C.Calls.history d.calls) told.0 told.1).size };
+    ghost has_size = { λ d told. (d.kept told.0 told.1).size };
 
-    ghost reads_image = { λ d told. (kept_if_honest d.size S.first (C.Calls.history d.calls) told.0 told.1).image };
+    ghost reads_image = { λ d told. (d.kept told.0 told.1).image };
 
-    ghost asked_image = { λ d told. (kept_if_honest d.size S.first (C.Calls.history d.calls) told.0 told.1).asked_image };
+    ghost asked_image = { λ d told. (d.kept told.0 told.1).asked_image };
 }

@@ -3,24 +3,12 @@ ghost use Rattle.std.specs.Prelude.{◌≡◌, ◌<◌, ◌≤◌, [], length, I
 ghost use Rattle.dev_file.specs.Notes.{calls_of};
 
 use crate::Calls;
-use crate::record::Record;
+use crate::record::{ASKED, FAILED, GAVE, NOT_SYNCED, Record, SYNCED, WROTE};
 use std::fs::OpenFile;
 use std::io;
 use std::io::ErrorKind;
 use std::os::unix::fs::FileExt;
 use std::rt::Files;
-
-const ASKED: u64 = 0;
-
-const WROTE: u64 = 1;
-
-const GAVE: u64 = 2;
-
-const FAILED: u64 = 3;
-
-const SYNCED: u64 = 4;
-
-const NOT_SYNCED: u64 = 5;
 
 /// An open file of the operating system, which notes the calls on it.
 #[derive(Drop)]

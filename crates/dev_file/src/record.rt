@@ -5,6 +5,19 @@ ghost use Rattle.dev_file.specs.Notes.{Note, note_of};
 
 use std::marker::{Model, PhantomData};
 
+// Which call a note is of.
+pub(crate) const ASKED: u64 = 0;
+
+pub(crate) const WROTE: u64 = 1;
+
+pub(crate) const GAVE: u64 = 2;
+
+pub(crate) const FAILED: u64 = 3;
+
+pub(crate) const SYNCED: u64 = 4;
+
+pub(crate) const NOT_SYNCED: u64 = 5;
+
 #[derive(Drop)]
 pub struct Record {
     marker: PhantomData<u8>,

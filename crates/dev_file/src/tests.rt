@@ -1,8 +1,78 @@
-use crate::{FileDevice, Unknown};
+ghost use Rattle.std.specs.Prelude.{◌≡◌, []};
+ghost use Rattle.dev_file.specs.Notes.{calls_of};
+
+use crate::record::{ASKED, FAILED, GAVE, NOT_SYNCED, Record, WROTE};
+use crate::{Calls, FileDevice, Unknown};
 use dev_api::{DevFailed, Device};
 use dev_edge::EdgeFault;
-use std::fs;
+use std::io::ErrorKind;
 use std::test::Fail;
+use std::{fs, io};
+
+// A file of sevens that takes or gives one byte a call, and is interrupted at every second one.
+#[derive(Drop)]
+struct Halting {
+    interrupted: bool,
+    log: Record,
+}
+
+impl Halting {
+    fn new() -> Self
+        ensures { calls_of result.log.notes ≡ [] }
+    {
+        Halting {
+            interrupted: false,
+            log: Record::new(),
+        }
+    }
+}
+
+impl Calls for Halting {
+    ghost history = { λ f. calls_of f.log.notes };
+
+    fn ask(&mut self, at: u64, bytes: &[u8]) {
+        self.log.note(&[ASKED, at], bytes);
+    }
+
+    fn write_some(&mut self, at: u64, bytes: &[u8]) -> io::Result<usize> {
+        self.interrupted = !self.interrupted;
+        if self.interrupted {
+            self.log.note(&[FAILED, at], &[]);
+            return Err(ErrorKind::Interrupted.into());
+        }
+        self.log.note(&[WROTE, at], &bytes[..1]);
+        Ok(1)
+    }
+
+    fn read_some(&mut self, at: u64, into: &mut [u8]) -> io::Result<usize> {
+        self.interrupted = !self.interrupted;
+        if self.interrupted {
+            self.log.note(&[FAILED, at], &[]);
+            return Err(ErrorKind::Interrupted.into());
+        }
+        into[0] = 7;
+        self.log.note(&[GAVE, at], &into[..1]);
+        Ok(1)
+    }
+
+    fn flush(&mut self) -> io::Result<()> {
+        self.log.note(&[NOT_SYNCED, 0], &[]);
+        Err(ErrorKind::Other.into())
+    }
+}
+
+// Interrupted calls are made again, and so is what is left of a piece. A sync that fails does so for good.
+#[test]
+fn goes_on_after_an_interruption(rt: HostRuntime) -> Result<(), Fail> {
+    let mut device = FileDevice::<Halting, Unknown>::new(Halting::new(), 8);
+    let mut bytes = [0; 3];
+    assert_eq!(rt; device.write_at(2, &[7, 7]), Ok(()));
+    assert_eq!(rt; device.read_at(1, &mut bytes), Ok(()));
+    assert_eq!(rt; bytes, [7, 7, 7]);
+    assert_eq!(rt; device.sync(), Err(DevFailed));
+    assert_eq!(rt; device.sync(), Err(DevFailed));
+    Ok(())
+}
 
 // A missing file is made of 67,108,864 zeros, and keeps what was written.
 #[test]
