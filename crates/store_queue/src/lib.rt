@@ -4,3 +4,6 @@
 mod queue;
 
 pub use queue::Queue;
+
+#[cfg(test)]
+mod tests;

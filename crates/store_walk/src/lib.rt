@@ -17,3 +17,8 @@ mod tidying;
 pub use emptying::sweep_trash;
 pub use looking::look_over;
 pub use tidying::tidy;
+
+#[cfg(test)]
+mod tests;
+#[cfg(test)]
+mod trials;
