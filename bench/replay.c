@@ -48,6 +48,7 @@ static char *path_of(const char *hex)
 static void make(struct call *x)
 {
     struct stat stat_buffer;
+    struct statx statx_buffer;
     switch (x->kind) {
     case 'o': slots[x->a] = open(x->from, (int)x->b, (mode_t)x->c); break;
     case 'c': close(slots[x->a]); break;
@@ -66,6 +67,7 @@ static void make(struct call *x)
     case 'f': fstat(slots[x->a], &stat_buffer); break;
     case 'g': syscall(SYS_getdents64, slots[x->a], buffer, x->b); break;
     case 'S': if (x->b) { if (lstat(x->from, &stat_buffer)) {} } else if (stat(x->from, &stat_buffer)) {} break;
+    case 'x': if (statx(AT_FDCWD, x->from, x->b ? AT_SYMLINK_NOFOLLOW : 0, STATX_ALL, &statx_buffer)) {} break;
     case 'm': mkdir(x->from, (mode_t)x->b); break;
     case 'u': unlink(x->from); break;
     case 'e': rmdir(x->from); break;

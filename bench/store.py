@@ -16,12 +16,12 @@ import tempfile
 import time
 
 HERE = os.path.dirname(os.path.abspath(__file__))
-PROGRAM = os.path.join(os.path.dirname(HERE), "crates", "filestore_cli", "out", "filestore_cli")
+PROGRAM = os.environ.get("PROGRAM") or os.path.join(os.path.dirname(HERE), "crates", "filestore_cli", "out", "filestore_cli")
 ROUNDS = 3
 COUNT = 1_000
 BLOCK = "x" + "5a" * 4096
 FILES = (
-    "openat,close,read,write,pread64,pwrite64,fsync,fdatasync,ftruncate,lseek,fstat,newfstatat,getdents64,stat,lstat,"
+    "openat,close,read,write,pread64,pwrite64,fsync,fdatasync,ftruncate,lseek,fstat,statx,newfstatat,getdents64,stat,lstat,"
     "mkdir,mkdirat,unlink,unlinkat,rmdir,rename,renameat,renameat2,link,linkat"
 )
 
@@ -141,8 +141,10 @@ def calls_of(log):
             found.append(f"t {slot} {words[1]}")
         elif call == "lseek":
             found.append(f"k {slot} {words[1]} {WHENCE.get(words[2], 0)}")
-        elif call == "fstat" or (call == "newfstatat" and slot is not None):
+        elif call == "fstat" or (call in ("newfstatat", "statx") and slot is not None):
             found.append(f"f {slot}")
+        elif call == "statx":
+            found.append(f"x 0 {int('NOFOLLOW' in rest)} 0 {paths[0]}")
         elif call == "getdents64":
             found.append(f"g {slot} {words[-1]}")
         elif call in ("newfstatat", "stat", "lstat") and paths:
