@@ -101,9 +101,10 @@ CASES = [
     ("a hashed folder", folder(COLLECTION + "DIR_A"), "damaged current/1.0_head/DIR_A"),
     ("a long name without its text", put(COLLECTION + LONG[:200] + "_0123_0_long", b""), f"damaged current/1.0_head/{LONG[:200]}_0123_0_long"),
     ("a file in a collection's place", lambda box: (gone(CURRENT + "2.0_head")(box), put(CURRENT + "2.0_head", b"")(box)), "damaged current/2.0_head"),
-    ("no folder for files that are built", gone(CURRENT + "aside"), "damaged current/aside"),
+    ("no folder for files that are built", gone(CURRENT + "aside"), "not a store"),
     ("a folder among files that are built", folder(CURRENT + "aside/x"), "damaged current/aside/x"),
-    ("no trash", gone(CURRENT + "trash"), "damaged current/trash"),
+    ("no folder of keys", gone(CURRENT + "omap"), "not a store"),
+    ("no trash", gone(CURRENT + "trash"), "not a store"),
     ("a folder of the committed number's name", lambda box: (gone(CURRENT + "commit_op_seq")(box), folder(CURRENT + "commit_op_seq")(box)), "bad number"),
 ]
 
