@@ -2,8 +2,10 @@
 """Times the program on ROOT and JOURNAL, beside a plain C program that makes the same system calls on files.
 
 Each case is a script on a store. Its run is traced once by `strace`; `replay.c` makes the same calls, with the same lengths and
-syncs, on a copy of the files as they were. Prints for each case the seconds of both (least of three rounds), the ratio, and how
-many system calls and syncs a round makes. Build the program first: `make run`. A word names the cases to measure.
+syncs, on a copy of the files as they were, with the same standard input and a file as standard output; it spells the bytes that
+it writes there as digits, as the program has to. What starting a program takes is left out of either. Prints for each case the
+seconds of both (least of three rounds), the ratio, and how many system calls and syncs a round makes. Build the program first:
+`make run`. A word names the cases to measure.
 """
 import os
 import re
@@ -14,12 +16,12 @@ import tempfile
 import time
 
 HERE = os.path.dirname(os.path.abspath(__file__))
-PROGRAM = os.path.join(os.path.dirname(HERE), "crates", "filestore_cli", "out", "filestore_cli")
+PROGRAM = os.environ.get("PROGRAM") or os.path.join(os.path.dirname(HERE), "crates", "filestore_cli", "out", "filestore_cli")
 ROUNDS = 3
 COUNT = 1_000
 BLOCK = "x" + "5a" * 4096
 FILES = (
-    "openat,close,read,write,pread64,pwrite64,fsync,fdatasync,ftruncate,lseek,fstat,newfstatat,getdents64,stat,lstat,"
+    "openat,close,read,write,pread64,pwrite64,fsync,fdatasync,ftruncate,lseek,fstat,statx,newfstatat,getdents64,stat,lstat,"
     "mkdir,mkdirat,unlink,unlinkat,rmdir,rename,renameat,renameat2,link,linkat"
 )
 
@@ -74,12 +76,28 @@ def text(lines):
     return "".join(line + "\n" for line in lines).encode()
 
 
+def timed(folder, words, lines):
+    """The seconds of a command, its status and what it printed; it reads a file, and prints to one."""
+    with open(os.path.join(folder, "script"), "w+b") as script, open(os.path.join(folder, "printed"), "w+b") as printed:
+        script.write(text(lines))
+        script.seek(0)
+        begin = time.monotonic()
+        status = subprocess.run(words, cwd=folder, stdin=script, stdout=printed, check=False).returncode
+        seconds = time.monotonic() - begin
+        printed.seek(0)
+        return seconds, status, printed.read()
+
+
 def run(folder, command, lines, trace=()):
-    begin = time.monotonic()
-    done = subprocess.run([*trace, PROGRAM, "root", "journal", *command.split()], cwd=folder, input=text(lines), stdout=subprocess.PIPE, check=False)
-    if done.returncode != 0 or b"refused" in done.stdout:
-        sys.exit(f"status {done.returncode}: {done.stdout[-200:]}")
-    return time.monotonic() - begin
+    seconds, status, printed = timed(folder, [*trace, PROGRAM, "root", "journal", *command.split()], lines)
+    if status != 0 or b"refused" in printed:
+        sys.exit(f"status {status}: {printed[-200:]}")
+    return seconds
+
+
+def start(folder):
+    """What it takes to start the program."""
+    return min(timed(folder, [PROGRAM], [])[0] for _ in range(20))
 
 
 def hexed(string):
@@ -97,7 +115,7 @@ def flags_of(words):
 
 
 def calls_of(log):
-    """The calls of a trace, in the words of `replay.c`; those on standard input and output are left out."""
+    """The calls of a trace, in the words of `replay.c`."""
     found = []
     for line in open(log):
         match = re.match(r"(?:\d+ +)?(\w+)\((.*)\) += (-?\d+)", line)
@@ -108,8 +126,6 @@ def calls_of(log):
         plain = re.sub(r'"[^"]*"(\.\.\.)?', '""', rest)
         words = [word.strip() for word in plain.split(",")]
         slot = int(words[0]) if re.fullmatch(r"\d+", words[0]) else None
-        if slot is not None and slot < 3:
-            continue
         if call == "openat" and result >= 0:
             mode = int(words[3], 8) if len(words) > 3 else 0
             found.append(f"o {result} {flags_of(words[2])} {mode} {paths[0]}")
@@ -125,8 +141,10 @@ def calls_of(log):
             found.append(f"t {slot} {words[1]}")
         elif call == "lseek":
             found.append(f"k {slot} {words[1]} {WHENCE.get(words[2], 0)}")
-        elif call == "fstat" or (call == "newfstatat" and slot is not None):
+        elif call == "fstat" or (call in ("newfstatat", "statx") and slot is not None):
             found.append(f"f {slot}")
+        elif call == "statx":
+            found.append(f"x 0 {int('NOFOLLOW' in rest)} 0 {paths[0]}")
         elif call == "getdents64":
             found.append(f"g {slot} {words[-1]}")
         elif call in ("newfstatat", "stat", "lstat") and paths:
@@ -142,6 +160,14 @@ def calls_of(log):
         elif call in ("link", "linkat") and len(paths) == 2:
             found.append(f"L 0 0 0 {paths[0]} {paths[1]}")
     return found
+
+
+def replayed(folder, words, lines):
+    """The seconds that `replay.c` tells on its standard error."""
+    with open(os.path.join(folder, "script"), "w+b") as script, open(os.path.join(folder, "printed"), "wb") as printed:
+        script.write(text(lines))
+        script.seek(0)
+        return float(subprocess.run(words, cwd=folder, stdin=script, stdout=printed, stderr=subprocess.PIPE, check=True).stderr)
 
 
 def measure(work, replay, case):
@@ -163,8 +189,8 @@ def measure(work, replay, case):
     calls = calls_of(log)
     with open(os.path.join(work, "calls"), "w") as out:
         out.write("\n".join(calls) + "\n")
-    ours = min(run(fresh(), "run", lines) for _ in range(ROUNDS))
-    plain = min(float(subprocess.run([replay, os.path.join(work, "calls")], cwd=fresh(), stdout=subprocess.PIPE, check=True).stdout) for _ in range(ROUNDS))
+    ours = min(run(fresh(), "run", lines) for _ in range(ROUNDS)) - start(folder)
+    plain = min(replayed(fresh(), [replay, os.path.join(work, "calls")], lines) for _ in range(ROUNDS))
     syncs = sum(call[0] in "sd" for call in calls)
     print(f"| {case} | {ours:.3f} s | {plain:.3f} s | {ours / plain:.2f} | {len(calls):,} | {syncs:,} |", flush=True)
     shutil.rmtree(made)

@@ -15,8 +15,8 @@ last fsync of the file or as it is now; its name only where its folder was synce
 `ordered` a sync of the file keeps its name too, as ext4 does.
 
 After each, a run that reads must end with status 0, or with status 7 where no transaction was acknowledged, and each
-object whose write was acknowledged must read as it was written. A second run of `run new` between the two is the case
-of a journal that was made by a process that died. Prints a line for each kind, and ends with 1 at the first loss.
+object whose write was acknowledged must read as it was written. A second run of `run new`, on a ROOT of its own, between the
+two is the case of a journal that was made by a process that died. Prints a line for each kind, and ends with 1 at the first loss.
 """
 import os
 import random
@@ -57,9 +57,10 @@ class Box:
         self.folder = os.path.join(self.at, "kept")
         os.mkdir(self.folder)
         self.journal = os.path.join(self.folder, "journal")
+        self.root = os.path.join(self.at, "store")
 
     def words(self, command):
-        return [PROGRAM, os.path.join(self.at, "store"), self.journal] + command.split()
+        return [PROGRAM, self.root, self.journal] + command.split()
 
     def gone(self):
         shutil.rmtree(self.at)
@@ -163,6 +164,7 @@ def no_power(work, first, ordered, twice):
         made = first != "missing"
         if twice:
             stable = content(box)
+            box.root = os.path.join(box.at, "again")
             status, lines, calls = run(box, "run new", script())
         else:
             stable = None

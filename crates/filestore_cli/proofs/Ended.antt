@@ -1,7 +1,7 @@
 -- A store that is closed behind the last line.
-use Rattle.std.proofs.Common.{◌≡◌, ℕ, ◌+◌, List, [], ◌++◌, length, refl, sym, ◌∙◌, ap, subst, arith, Option, Some, None}
+use Rattle.std.proofs.Common.{◌≡◌, ◌+◌, List, [], ◌++◌, length, refl, sym, ◌∙◌, ap, subst, arith}
 use mathlib.Core.List.{append-nil}
-use Rattle.std.specs.Prelude.{Result, Ok, Err}
+use Rattle.std.specs.Prelude.{Result, Err}
 use Rattle.tree_api.specs.Tree.{Path}
 use Rattle.tree_api.specs.Disk.{Everywhere}
 use Rattle.io_edge.specs.Flow.{Outflow}
@@ -12,12 +12,7 @@ use Rattle.store_history.specs.History.{History, end_of, at}
 use Rattle.store_history.specs.Journal.{EachImage}
 use Rattle.store_history.specs.Pair.{Closed, PairsStand}
 use Rattle.tree_places.specs.Images.{StoreImage}
-use Rattle.file_store.specs.Faults.{ClosesBroken}
-use Rattle.file_store.specs.Store.{Store as Held, Works}
-use Rattle.file_store.specs.Holds.{Leaves, LeavesClosed, with_waiting}
-use Rattle.file_store.specs.declared.fault.First.{First}
-use Rattle.file_store.specs.declared.fault.TurnFault.{TurnFault}
-use Rattle.file_store.specs.declared.fault.TurnFault.TheVariants as turn
+use Rattle.file_store.specs.Holds.{Leaves, LeavesClosed, IsSwept, with_waiting}
 use Rattle.script_store.specs.declared.store.ScriptStore.{ScriptStore}
 use Rattle.script_store.specs.declared.fault.StepFault.{StepFault}
 use Rattle.script_store.specs.declared.fault.StepFault.TheVariants as stepping
@@ -26,8 +21,8 @@ use Rattle.filestore_cli.specs.declared.stop.Stop.{Stop}
 use Rattle.filestore_cli.specs.declared.stop.Stop.TheVariants.{Usage, Tree, Device, Source, Sink, Memory, Refused}
 use Rattle.filestore_cli.specs.Seen.{Seen, SeenSides, Sides, Says, TreeFails, DeviceFails}
 use Rattle.filestore_cli.specs.Opened.{HasRun, held_by}
-use Rattle.filestore_cli.specs.Stop.{close_stop, step_stop}
-use Rattle.filestore_cli.specs.Run.{Survives, IsClosed, Done, Stopped, Halted, IsCausedBy, IsStartCaused, IsStartStop, IsStepStop, history}
+use Rattle.filestore_cli.specs.Stop.{step_stop}
+use Rattle.filestore_cli.specs.Run.{Survives, IsClosed, Done, Stopped, Halted, IsCausedBy, IsStartStop, IsStepStop, history}
 
 module _ (id : Identity) (s : Session) (script : List Line) (store : ScriptStore) (sink : Seen Outflow) (w v : Sides) (run : HasRun id s script store w sink) where
   abbrev pub h : History
@@ -47,8 +42,9 @@ module _ (id : Identity) (s : Session) (script : List Line) (store : ScriptStore
       subst (λ (i : Identity). Everywhere v.tree (λ t. EachImage (λ c. Closed (StoreImage i) i.fsid t c (at (history s script) (end_of (history s script)))) v.device.disk)) run.is
       (subst (λ (l : OpLists). LeavesClosed (held_by s l) store.store v.tree v.device.disk) (sym run.split) closed)
 
-  pub all_done : LeavesClosed (with_waiting h store.store) store.store v.tree v.device.disk → Leaves (with_waiting h store.store) (end_of h) store.store v.tree v.device.disk → Done id s script sink v
-  all_done closed leaves = record { written = run.written; survives = survive script refl leaves; closed = closed_all closed }
+  pub all_done : LeavesClosed (with_waiting h store.store) store.store v.tree v.device.disk → IsSwept v.tree
+      → Leaves (with_waiting h store.store) (end_of h) store.store v.tree v.device.disk → Done id s script sink v
+  all_done closed swept leaves = record { written = run.written; survives = survive script refl leaves; closed = closed_all closed; swept = swept }
 
   stopped : Leaves (with_waiting h store.store) (end_of h) store.store v.tree v.device.disk → Stopped id s script (Says sink) v
   stopped leaves = record {
@@ -70,38 +66,9 @@ module _ (id : Identity) (s : Session) (script : List Line) (store : ScriptStore
   all_halted Sink only leaves = absurd only
   all_halted (Refused refusal) only leaves = absurd only
 
--- ---- what closing a store stops for
-
 -- a fault, whatever else the answer might have been
 pub err_is : {T : Type 0} (stop other : Stop) → ◌≡◌ {A = Result T Stop} (Err stop) (Err other) → stop ≡ other
 err_is stop other e = cc
-
--- one that works isn't broken
-pub unbroken : (s : Held) (fault : TurnFault) → Works s → ClosesBroken s fault → (first : First) → fault ≡ turn.Broken first → ⊥
-unbroken s fault works broken first e = absurd (none_some (sym works ∙ subst (ClosesBroken s) e broken))
-  where
-    none_some : ◌≡◌ {A = Option First} None (Some first) → ⊥
-    none_some same = cc
-
-close_only : (fault : TurnFault) → ((first : First) → fault ≡ turn.Broken first → ⊥) → ((p : Path) → fault ≡ turn.Damaged p → ⊥) → IsStartStop (close_stop fault)
-close_only turn.Tree whole sound = tt
-close_only turn.Device whole sound = tt
-close_only turn.Memory whole sound = tt
-close_only (turn.Damaged path) whole sound = absurd (sound path refl)
-close_only (turn.Broken first) whole sound = absurd (whole first refl)
-
-pub closed_only : (stop : Stop) (fault : TurnFault) → stop ≡ close_stop fault → ((first : First) → fault ≡ turn.Broken first → ⊥) → ((p : Path) → fault ≡ turn.Damaged p → ⊥) → IsStartStop stop
-closed_only stop fault e whole sound = subst IsStartStop (sym e) (close_only fault whole sound)
-
-close_caused : (w : SeenSides) (fault : TurnFault) → (fault ≡ turn.Tree → TreeFails w) → (fault ≡ turn.Device → DeviceFails w) → IsStartCaused w (close_stop fault)
-close_caused w turn.Tree tree device = tree refl
-close_caused w turn.Device tree device = device refl
-close_caused w turn.Memory tree device = tt
-close_caused w (turn.Damaged path) tree device = tt
-close_caused w (turn.Broken first) tree device = tt
-
-pub closed_caused : (w : SeenSides) (stop : Stop) (fault : TurnFault) → stop ≡ close_stop fault → (fault ≡ turn.Tree → TreeFails w) → (fault ≡ turn.Device → DeviceFails w) → IsStartCaused w stop
-closed_caused w stop fault e tree device = subst (IsStartCaused w) (sym e) (close_caused w fault tree device)
 
 -- ---- what a statement stops for
 

@@ -1,12 +1,12 @@
 -- What is written, call after call.
-use Rattle.std.proofs.Common.{◌≡◌, ◌⊎◌, inl, inr, ⊎_elim, ℕ, ◌≤◌, List, [], ◌++◌, take, refl, sym, ap, subst, arith, append_assoc}
+use Rattle.std.proofs.Common.{◌≡◌, inl, inr, ℕ, ◌≤◌, List, [], ◌++◌, take, refl, subst, arith}
 use Rattle.std.specs.Prelude.{Result, Ok, Err, OnOk, OnErr}
 use Rattle.std.proofs.lemmas.List.{append-nil}
 use Rattle.io_edge.specs.Flow.{Outflow, SinkFails}
 use Rattle.io_edge.specs.Pieces.{Writes, WritesFront}
 use Rattle.io_edge.specs.declared.IoFailed.{IoFailed}
 use Rattle.io_edge.proofs.Writing.{counted_since, writes_none, writes_then}
-use Rattle.filestore_cli.specs.Seen.{Seen, moves, Says, SaysPart, SinkFailed, EndsWith}
+use Rattle.filestore_cli.specs.Seen.{moves, Says, SaysPart, EndsWith}
 
 pub says_none : (t : Type 0) (a : Outflow) → Says (moves t a a) []
 says_none t a = λ told. writes_none a

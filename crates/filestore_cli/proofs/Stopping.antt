@@ -1,6 +1,6 @@
 -- Why a run stops, carried up to its end.
-use Rattle.std.proofs.Common.{◌≡◌, ◌⊎◌, inl, inr, ℕ, ◌≤◌, ltb, ◌<◌, cond, List, [], ◌++◌, length, refl, sym, ◌∙◌, ap, subst, arith}
-use Rattle.std.specs.Prelude.{Result, Ok, Err, OnOk, IfOk, IfErr}
+use Rattle.std.proofs.Common.{◌≡◌, inl, inr, ℕ, ◌≤◌, ltb, ◌<◌, cond, List, [], length, refl, sym, ◌∙◌, ap, subst, arith}
+use Rattle.std.specs.Prelude.{Result, Ok, Err, OnOk, IfErr}
 use Rattle.std.proofs.lemmas.Bool.Decides.{nat_tests}
 use Rattle.io_edge.specs.Flow.{Inflow, Outflow, SourceFails, SinkFails}
 use Rattle.io_edge.specs.Pieces.{IsPast}
@@ -15,10 +15,10 @@ use Rattle.filestore_cli.specs.declared.stop.Refusal.{Refusal}
 use Rattle.filestore_cli.specs.declared.stop.Refusal.TheVariants.{Script, Store, Size, NotEmpty, Damaged}
 use Rattle.filestore_cli.specs.declared.stop.Stop.{Stop}
 use Rattle.filestore_cli.specs.declared.stop.Stop.TheVariants.{Usage, Tree as TreeStop, Device, Source, Sink, Memory, Refused}
-use Rattle.filestore_cli.specs.Seen.{Seen, SeenSides, Sides, Scene, scene as on, moves, turns, Says, SinkFailed, EndsWith, TreeFails, DeviceFails}
-use Rattle.filestore_cli.specs.Opened.{Opens, OfOpened}
+use Rattle.filestore_cli.specs.Seen.{Seen, SeenSides, Sides, scene as on, moves, turns, Says, SinkFailed, EndsWith, TreeFails, DeviceFails}
+use Rattle.filestore_cli.specs.Opened.{Opens}
 use Rattle.filestore_cli.specs.Stop.{status_of, line_of, usage_line, memory_line, TakesMemory, Ended}
-use Rattle.filestore_cli.specs.Run.{Survives, Begun, Done, CanStart, CouldStart, Unstarted, Cut, Stopped, Halted, Halts, Unread, Stops, Unheard, StopsOn, StopsWith, AnswersAll, AnswersScript, Answers, IsCaused, IsCausedBy, IsStartCaused, IsFree, IsStepStop, IsStartStop, RunStops}
+use Rattle.filestore_cli.specs.Run.{Begun, Done, CouldStart, Unstarted, Cut, Stopped, Halted, Halts, Stops, StopsOn, StopsWith, AnswersAll, AnswersScript, Answers, IsCaused, IsCausedBy, IsStartCaused, IsFree, IsStepStop, IsStartStop, RunStops}
 use Rattle.io_edge.proofs.Writing.{counted_since}
 use Rattle.filestore_cli.proofs.Saying.{ends_then, part_still}
 

@@ -1,5 +1,5 @@
 -- What a call sees of an outside object, and what it writes.
-use Rattle.std.specs.Prelude.{◌⊎◌, ℕ, List, [], ◌++◌, take}
+use Rattle.std.specs.Prelude.{◌⊎◌, ℕ, List, ◌++◌, take}
 use Rattle.tree_api.specs.Disk.{Disk as Files}
 use Rattle.tree_api.specs.declared.tree.FileTree.{Ghosts as OfTree}
 use Rattle.fault_count.specs.Counted.{Counted}

@@ -10,8 +10,6 @@ use Rattle.store_making.specs.declared.fault.MakeFault.{MakeFault}
 use Rattle.store_making.specs.declared.fault.MakeFault.TheVariants as make
 use Rattle.store_opening.specs.declared.fault.MountFault.{MountFault}
 use Rattle.store_opening.specs.declared.fault.MountFault.TheVariants as mount
-use Rattle.file_store.specs.declared.fault.TurnFault.{TurnFault}
-use Rattle.file_store.specs.declared.fault.TurnFault.TheVariants as turn
 use Rattle.script_store.specs.declared.fault.StepFault.{StepFault}
 use Rattle.script_store.specs.declared.fault.StepFault.TheVariants as stepping
 use Rattle.filestore_cli.specs.declared.stop.Refusal.{Refusal}
@@ -125,10 +123,3 @@ step_stop stepping.Tree = Tree
 step_stop stepping.Device = Device
 step_stop (stepping.Damaged path) = Refused (Damaged path)
 step_stop stepping.Memory = Memory
-
-abbrev pub close_stop : TurnFault → Stop
-close_stop turn.Tree = Tree
-close_stop turn.Device = Device
-close_stop (turn.Damaged path) = Refused (Damaged path)
-close_stop turn.Memory = Memory
-close_stop (turn.Broken first) = Memory

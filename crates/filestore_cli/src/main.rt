@@ -9,6 +9,8 @@ mod opening;
 mod run;
 mod status;
 mod stop;
+#[cfg(test)]
+mod tests;
 
 use command::read_command;
 use dev_edge::EdgeFault;

@@ -1,10 +1,9 @@
 //! How a run ends before all is done.
 ghost use Rattle.std.specs.Prelude.{◌≡◌, ◌≤◌, [], IfOk, OnErr, string_bytes};
 ghost use Rattle.filestore_cli.specs.Seen.{sink_seen, EndsWith};
-ghost use Rattle.filestore_cli.specs.Stop.{slashed, damaged_line, mount_line, refused_line, refused_status, make_stop, mount_stop, step_stop, close_stop, Ended};
+ghost use Rattle.filestore_cli.specs.Stop.{slashed, damaged_line, mount_line, refused_line, refused_status, make_stop, mount_stop, step_stop, Ended};
 
 use crate::status::Status;
-use file_store::TurnFault;
 use fs_script::{Blob, ScriptWhy, print_refusal};
 use io_edge::{Sink, write_all};
 use script_store::StepFault;
@@ -90,18 +89,6 @@ pub fn step_stop(fault: StepFault) -> Stop
         StepFault::Device => Stop::Device,
         StepFault::Damaged { path } => Stop::Refused(Refusal::Damaged(path)),
         StepFault::Memory => Stop::Memory,
-    }
-}
-
-/// What a store that wasn't closed is to a run. One that works meets no earlier fault.
-pub fn close_stop(fault: TurnFault) -> Stop
-    ensures { result ≡ close_stop fault }
-{
-    match fault {
-        TurnFault::Tree => Stop::Tree,
-        TurnFault::Device => Stop::Device,
-        TurnFault::Damaged { path } => Stop::Refused(Refusal::Damaged(path)),
-        TurnFault::Broken(_) | TurnFault::Memory => Stop::Memory,
     }
 }
 

@@ -1,10 +1,10 @@
 //! The end of a store's use.
-ghost use Rattle.std.specs.Prelude.{◌≡◌, ◌≢◌, ◌≤◌, Err, OnOk, OnErr, IsErrOf};
+ghost use Rattle.std.specs.Prelude.{◌≡◌, ◌≢◌, ◌≤◌, Err, OnOk, IsErrOf};
 ghost use Rattle.fault_count.specs.Counted.{Counted};
 ghost use Rattle.tree_api.specs.Tree.{Path};
 ghost use Rattle.store_history.specs.History.{History};
 ghost use Rattle.file_store.specs.Store.{Works, IsItsTree, IsItsDevice};
-ghost use Rattle.file_store.specs.Holds.{LeavesClosed, with_waiting};
+ghost use Rattle.file_store.specs.Holds.{LeavesClosed, IsSwept, with_waiting};
 ghost use Rattle.script_store.specs.Held.{HoldsOn, LeavesSome};
 
 use crate::fault::{StepFault, of_turn};
@@ -23,8 +23,9 @@ pub fn close<T: FileTree, D: Device>(
     requires device { IsItsDevice store.store (D.tells dev.old) (D.state dev.old) }
     ensures closed { T.tells tree.new → D.tells dev.new → (h : History) → HoldsOn h store (T.disk tree.old) (D.state dev.old)
         → OnOk result (LeavesClosed (with_waiting h store.store) store.store (T.disk tree.new) (D.state dev.new).disk) }
+    ensures swept { T.tells tree.new → OnOk result (IsSwept (T.disk tree.new)) }
     ensures left { T.tells tree.new → D.tells dev.new → (h : History) → HoldsOn h store (T.disk tree.old) (D.state dev.old)
-        → OnErr result (LeavesSome h store (T.disk tree.new) (D.state dev.new)) }
+        → LeavesSome h store (T.disk tree.new) (D.state dev.new) }
     ensures undamaged { T.tells tree.new → (path : Path) → result ≢ Err (StepFault.Damaged path) }
     ensures told { T.tells tree.new → T.tells tree.old }
     ensures honest { D.tells dev.new → D.tells dev.old }

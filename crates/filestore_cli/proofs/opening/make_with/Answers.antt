@@ -1,4 +1,4 @@
-use Rattle.std.proofs.Common.{rules, ap, Err, refl}
+use Rattle.std.proofs.Common.{rules, ap, Err}
 use Rattle.dev_api.specs.DeviceState.{DeviceState}
 use Rattle.filestore_cli.specs.Seen.{turns, sides}
 use Rattle.filestore_cli.proofs.Starts.{could_all, remade_caused, unmade, unmade_caused, unmade_free}

@@ -1,4 +1,4 @@
-use Rattle.std.proofs.Common.{rules, ap, Err, refl}
+use Rattle.std.proofs.Common.{ap, Err, refl}
 use Rattle.filestore_cli.specs.Seen.{turns, sides}
 use Rattle.filestore_cli.proofs.Starts.{run_opens, unmounted, unmounted_caused, unmounted_free}
 use Rattle.filestore_cli.proofs.opening.mount_store.Goals as goal

@@ -1,10 +1,10 @@
-use Rattle.std.proofs.Common.{rules, sym, subst}
+use Rattle.std.proofs.Common.{sym, subst}
 use Rattle.std.specs.Prelude.{IfErr, IfOk, OnOk}
 use Rattle.script_store.specs.declared.store.ScriptStore.{ScriptStore}
 use Rattle.filestore_cli.specs.declared.command.Command.{Command}
 use Rattle.filestore_cli.specs.Seen.{turns, sides}
 use Rattle.filestore_cli.specs.Opened.{Opens}
-use Rattle.filestore_cli.specs.Run.{Begun, CanStart, CouldStart, IsStartStop, Unstarted}
+use Rattle.filestore_cli.specs.Run.{Begun, CanStart, CouldStart, Unstarted}
 use Rattle.filestore_cli.proofs.opening.start.Goals as goal
 
 pub returns-in-RunNew-clause-opens : goal.returns-in-RunNew-clause-opens

@@ -1,8 +1,7 @@
-use Rattle.std.proofs.Common.{rules, ◌≡◌, ◌∙◌, inl, inr, sym, subst, refl, arith}
+use Rattle.std.proofs.Common.{◌≡◌, inr, sym, subst, arith}
 use Rattle.filestore_cli.specs.declared.command.Command.{Command}
-use Rattle.filestore_cli.specs.declared.stop.Stop.{Stop}
 use Rattle.filestore_cli.specs.Seen.{scene as on, moves, turns, sides}
-use Rattle.filestore_cli.specs.Stop.{status_of, line_of}
+use Rattle.filestore_cli.specs.Stop.{line_of}
 use Rattle.filestore_cli.specs.Run.{Answers, RunStops, CanStart}
 use Rattle.filestore_cli.proofs.Stopping.{usage_ended, not_usage, ran, only_memory}
 use Rattle.filestore_cli.proofs.run.run.Goals as goal

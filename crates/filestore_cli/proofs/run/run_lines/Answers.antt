@@ -1,5 +1,4 @@
 use Rattle.std.proofs.Common.{rules, ◌∙◌, ap, Err, refl, arith}
-use Rattle.fs_session.specs.Answers.{Session}
 use Rattle.filestore_cli.specs.Seen.{sides}
 use Rattle.filestore_cli.proofs.Runs.{going_first, going_more, going_halted, has_run}
 use Rattle.filestore_cli.specs.Opened.{held_by}

@@ -1,4 +1,4 @@
-use Rattle.std.proofs.Common.{rules, ap, refl}
+use Rattle.std.proofs.Common.{ap, refl}
 use Rattle.filestore_cli.specs.declared.stop.Stop.TheVariants.{Usage, Tree, Device, Source, Memory}
 use Rattle.filestore_cli.specs.declared.status.Status.{Status}
 use Rattle.filestore_cli.proofs.Stopping.{ended_as}

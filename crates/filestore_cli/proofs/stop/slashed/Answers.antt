@@ -1,4 +1,4 @@
-use Rattle.std.proofs.Common.{◌∙◌, ap, arith}
+use Rattle.std.proofs.Common.{arith}
 use Rattle.filestore_cli.proofs.Lines.{one_more}
 use Rattle.filestore_cli.proofs.stop.slashed.Goals as goal
 
