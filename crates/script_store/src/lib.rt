@@ -10,3 +10,6 @@ mod store;
 pub use closing::close;
 pub use fault::StepFault;
 pub use store::{ScriptStore, Stepped, step};
+
+#[cfg(test)]
+mod tests;
