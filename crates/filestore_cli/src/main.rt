@@ -13,7 +13,8 @@ mod stop;
 mod tests;
 
 use command::read_command;
-use dev_edge::{EdgeFault, RealDevice};
+use dev_edge::EdgeFault;
+use dev_file::{FileDevice, Start, Unknown};
 use io_edge::{RealSink, RealSource, Text};
 use run::run;
 use status::Status;
@@ -56,8 +57,10 @@ fn read_arguments(rt: &(impl Env + AllocGlobal)) -> io::Result<Option<Arguments>
 }
 
 /// Runs the command of the command line over standard input and output, the tree at its root and the file of the journal.
-fn status_of<R: Env + AllocGlobal + Files + Input + Print + Clone + Drop>(
+/// `start` stands for what that file holds as it is opened.
+fn status_of<R: Env + AllocGlobal + Files + Input + Print + Clone + Drop, S: Start>(
     rt: &R,
+    start: S,
 ) -> Result<Status, AllocError>
 where
     R::File: FileExt,
@@ -77,7 +80,7 @@ where
         Err(EdgeFault::Outside) => return Ok(end(rt.alloc(), &mut sink, Stop::Tree)),
         Err(EdgeFault::Memory) => return Ok(end(rt.alloc(), &mut sink, Stop::Memory)),
     };
-    let mut device = match RealDevice::at(rt.clone()?, arguments.journal.as_str()) {
+    let mut device = match FileDevice::at(rt, arguments.journal.as_str(), start) {
         Ok(device) => device,
         Err(EdgeFault::Outside) => return Ok(end(rt.alloc(), &mut sink, Stop::Device)),
         Err(EdgeFault::Memory) => return Ok(end(rt.alloc(), &mut sink, Stop::Memory)),
@@ -93,5 +96,5 @@ where
 }
 
 fn main(rt: HostRuntime) -> ExitCode {
-    ExitCode::from(status_of(&rt).unwrap_or(Status::MEMORY).0)
+    ExitCode::from(status_of(&rt, Unknown).unwrap_or(Status::MEMORY).0)
 }

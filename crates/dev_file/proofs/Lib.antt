@@ -1,0 +1,3 @@
+pub mod Reached
+mod Pieces
+pub mod Sound

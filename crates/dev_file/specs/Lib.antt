@@ -1,0 +1,5 @@
+pub mod Calls
+pub mod Notes
+pub mod Honest
+pub mod Kept
+pub mod Device
